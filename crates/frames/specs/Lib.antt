@@ -1,0 +1,6 @@
+pub mod Keys
+pub mod Number
+pub mod Line
+pub mod Lines
+pub mod Texts
+pub mod Answer

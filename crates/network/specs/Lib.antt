@@ -1,0 +1,2 @@
+pub mod FrameTime
+pub mod Ranges
