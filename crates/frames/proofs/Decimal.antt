@@ -9,18 +9,21 @@ use borrow.Author.Needs.{needs}
 use lib.Dec.{eqb, ltb}
 use lib.ListN.{length, getD, take, drop, take-append-drop}
 use Rattle.std.proofs.shelf.Decimals.{decimal-value, digits-decimal, value-decimal, decimal-some, first-decimal, decimal-digit}
-use Rattle.std.proofs.shelf.Lists.{take-at, drop-at}
+use Rattle.std.proofs.shelf.Lists.{length-take-le, take-at, drop-at}
 use Rattle.std.proofs.shelf.Numerals.{Numerals, numerals-by-fold}
+use Rattle.std.proofs.shelf.Sums.{leading-le-length}
 use Rattle.std.proofs.shelf.Ways.{tells}
 use Rattle.std.specs.Options.{okOr}
 use Rattle.std.specs.Text.{asciiDigit}
 use Rattle.std.specs.Written.{decimal}
 use Rattle.std.specs.shelf.Lists.{leading}
 use Rattle.std.specs.shelf.Text.{allDigits}
+use Rattle.std.specs.declared.option.Option.the-variants.{Some, None}
 use Rattle.std.specs.declared.result.Result.{Result}
 use Rattle.std.specs.declared.result.Result.the-variants.{Ok, Err}
 use Rattle.frames.specs.declared.fault.Reason.{Reason}
 use Rattle.frames.specs.declared.fault.Reason.the-variants.{DigitExpected, LeadingZero, Above}
+use Rattle.frames.specs.Refused.{BadNumber}
 use Rattle.frames.specs.Number.{valueAfter, valueOf, small, wholeNumber, before, number}
 
 own : Numerals (λ ds. allDigits ds ≡ true) valueOf
@@ -34,6 +37,15 @@ leading-digits (b ∷ bs) = go (asciiDigit b) refl (leading-digits bs)
     go : (v : Bool) → asciiDigit b ≡ v → allDigits (take (leading asciiDigit bs) bs) ≡ true → allDigits (take (cond v (1 + leading asciiDigit bs) 0) (b ∷ bs)) ≡ true
     go true is more = rw one-add (rw is more)
     go false is more = refl
+
+-- no digit follows them
+leading-stops : (bs : List ℕ) → leading asciiDigit (drop (leading asciiDigit bs) bs) ≡ 0
+leading-stops [] = refl
+leading-stops (b ∷ bs) = go (asciiDigit b) refl (leading-stops bs)
+  where
+    go : (v : Bool) → asciiDigit b ≡ v → leading asciiDigit (drop (leading asciiDigit bs) bs) ≡ 0 → leading asciiDigit (drop (cond v (1 + leading asciiDigit bs) 0) (b ∷ bs)) ≡ 0
+    go true is more = rw one-add more
+    go false is more = rw is refl
 
 leading-all : (ds rest : List ℕ) → allDigits ds ≡ true → leading asciiDigit rest ≡ 0 → leading asciiDigit (ds ++ rest) ≡ length ds
 leading-all [] rest all stop = stop
@@ -80,13 +92,25 @@ before-ok {A} rest (Ok y) x after is =
     (ap (λ p. Ok (p .0)) pair, ap (λ p. p .1) pair)
 before-ok rest (Err e) x after is = (cc, cc)
 
-pub number-ok : (bs rest : List ℕ) (n : ℕ) → number bs ≡ Ok (n, rest) → bs ≡ decimal n ++ rest
+-- what an accepted number says of its text
+pub record Read (bs rest : List ℕ) (n : ℕ) : Type 0 where
+  pub text : bs ≡ decimal n ++ rest
+  pub stops : leading asciiDigit rest ≡ 0
+  pub fits : n < 2 ^ 32
+
+pub number-ok : (bs rest : List ℕ) (n : ℕ) → number bs ≡ Ok (n, rest) → Read bs rest n
 unfolding number
 number-ok bs rest n is =
     let k = leading asciiDigit bs in
-    let parts = before-ok (drop k bs) (wholeNumber (take k bs)) n rest is in
-    let digits = whole-ok (take k bs) n (leading-digits bs) (parts .0) in
-    sym (take-append-drop k bs) ∙ (λ i. digits i ++ parts .1 i)
+    let ds = take k bs in
+    let parts = before-ok (drop k bs) (wholeNumber ds) n rest is in
+    let digits = whole-ok ds n (leading-digits bs) (parts .0) in
+    let h = accepted (length ds) (getD ds 0 0) (valueOf ds) n (parts .0) in
+    record {
+      text = sym (take-append-drop k bs) ∙ (λ i. digits i ++ parts .1 i);
+      stops = ap (leading asciiDigit) (sym (parts .1)) ∙ leading-stops bs;
+      fits = omega (arith, h .value, h .fits);
+    }
 
 pub number-back : (n : ℕ) (rest : List ℕ) → n < 2 ^ 32 → leading asciiDigit rest ≡ 0 → number (decimal n ++ rest) ≡ Ok (n, rest)
 unfolding number
@@ -95,3 +119,49 @@ number-back n rest fits stop =
     let front = ap (λ j. take j (decimal n ++ rest)) k ∙ take-at (decimal n) rest _ refl in
     let back = ap (λ j. drop j (decimal n ++ rest)) k ∙ drop-at (decimal n) rest _ refl in
     (λ i. before (back i) (wholeNumber (front i))) ∙ ap (before rest) (whole-back n fits)
+
+before-err : {A E : Type 0} (rest : List ℕ) (r : Result A E) (e : E) → before rest r ≡ Err e → r ≡ Err e
+before-err rest (Ok y) e is = cc
+before-err rest (Err d) e is = cc
+
+-- why no number is read
+data Refusal (l first v : ℕ) (why : Reason) : Type 0 where
+  none : why ≡ DigitExpected → l ≡ 0 → Refusal l first v why
+  zeros : why ≡ LeadingZero → first ≡ 48 → 1 < l → Refusal l first v why
+  great : why ≡ Above 4294967295 → 4294967295 < v → Refusal l first v why
+
+refusal : (l first v : ℕ) (why : Reason) → whole l first v ≡ Err why → Refusal l first v why
+refusal l first v why is = go (eqb l 0) refl (eqb first 48 && ltb 1 l) refl (ltb v (2 ^ 32)) refl is
+  where
+    go : (a : Bool) → eqb l 0 ≡ a → (b : Bool) → (eqb first 48 && ltb 1 l) ≡ b → (d : Bool) → ltb v (2 ^ 32) ≡ d → cond a (Err DigitExpected) (cond b (Err LeadingZero) (okOr (cond d (Some v) None) (Above 4294967295))) ≡ Err why → Refusal l first v why
+    go true ea b eb d ed is = none (cc) (grind (arith, tells))
+    go false ea true eb d ed is = zeros (cc) (grind (arith, tells)) (grind (arith, tells))
+    go false ea false eb true ed is = absurd (let z : _≡_ {A = ℕ} 0 1 = cc in omega arith)
+    go false ea false eb false ed is = great (cc) (grind (arith, tells))
+
+two-digits : (ds : List ℕ) → allDigits ds ≡ true → getD ds 0 0 ≡ 48 → 1 < length ds → (d : ℕ) × ((rest : List ℕ) × ((ds ≡ 48 ∷ (d ∷ rest)) × (asciiDigit d ≡ true)))
+two-digits [] all first more = absurd (omega arith)
+two-digits (a ∷ []) all first more = absurd (omega arith)
+two-digits (a ∷ b ∷ ds) all first more = (b, (ds, (ap (λ x. x ∷ (b ∷ ds)) first, second (asciiDigit a) (asciiDigit b) all)))
+  where
+    second : (u v : Bool) → (u && (v && allDigits ds)) ≡ true → v ≡ true
+    second true true all = refl
+    second true false all = cc
+    second false v all = cc
+
+explained : (bs ds rest : List ℕ) (why : Reason) → bs ≡ ds ++ rest → allDigits ds ≡ true → leading asciiDigit bs ≡ length ds → Refusal (length ds) (getD ds 0 0) (valueOf ds) why → BadNumber bs why
+explained bs ds rest why whole all front (none e empty) = subst (BadNumber bs) (sym e) (front ∙ empty)
+explained bs ds rest why whole all front (zeros e first more) =
+    let two = two-digits ds all first more in
+    subst (BadNumber bs) (sym e) (two .0, (two .1 .0 ++ rest, (whole ∙ ap (λ l. l ++ rest) (two .1 .1 .0), two .1 .1 .1)))
+explained bs ds rest why whole all front (great e over) = subst (BadNumber bs) (sym e) (ds, (rest, (whole, (all, (refl, over)))))
+
+pub number-err : (bs : List ℕ) (why : Reason) → number bs ≡ Err why → BadNumber bs why
+unfolding number
+number-err bs why is =
+    let k = leading asciiDigit bs in
+    let ds = take k bs in
+    let rest = drop k bs in
+    let front = sym (length-take-le k bs (leading-le-length asciiDigit bs)) in
+    explained bs ds rest why (sym (take-append-drop k bs)) (leading-digits bs) front
+    (refusal (length ds) (getD ds 0 0) (valueOf ds) why (before-err rest (wholeNumber ds) why is))

@@ -21,6 +21,7 @@ use Rattle.frames.specs.declared.key.Key.the-variants.{Size, Rate, Grain}
 use Rattle.frames.specs.Keys.{opening, rangeOf}
 use Rattle.frames.specs.Number.{number}
 use Rattle.frames.specs.Line.{andThen, after, atKey, numberAfter, field, atEnd, form, inRange, allowed, readLine, written, Allowed, ReadsExactly}
+use Rattle.frames.specs.Refused.{Field}
 use Rattle.frames.proofs.Openings.{after-front, front-after}
 use Rattle.frames.proofs.Decimal.{number-ok, number-back}
 
@@ -36,15 +37,16 @@ at-key-ok : {A : Type 0} (k : Key) (r : Result A Reason) (x : A) → atKey k r �
 at-key-ok k (Ok y) x is = cc
 at-key-ok k (Err why) x is = cc
 
-after-ok : (k : Key) (bs rest : List ℕ) (o : Option (List ℕ)) (n : ℕ) → after (opening k) bs ≡ o → numberAfter k o ≡ Ok (n, rest) → bs ≡ opening k ++ (decimal n ++ rest)
-after-ok k bs rest None n is e = absurd (let z : _≡_ {A = ℕ} 0 1 = cc in omega arith)
-after-ok k bs rest (Some ds) n is e =
-    front-after (opening k) bs ds is ∙ ap (λ l. opening k ++ l) (number-ok ds rest n (at-key-ok k (number ds) (n, rest) e))
-
--- a field is its key, its number and the rest
-field-ok : (k : Key) (bs : List ℕ) (x : ℕ × List ℕ) → field k bs ≡ Ok x → bs ≡ opening k ++ (decimal (x .0) ++ x .1)
+-- an accepted field is its key, its number and the rest
+pub field-read : (k : Key) (bs : List ℕ) (x : ℕ × List ℕ) → field k bs ≡ Ok x → Field k bs (x .0) (x .1)
 unfolding field
-field-ok k bs x is = after-ok k bs (x .1) (after (opening k) bs) (x .0) refl is
+field-read k bs x is = go (after (opening k) bs) refl is
+  where
+    go : (o : Option (List ℕ)) → after (opening k) bs ≡ o → numberAfter k o ≡ Ok x → Field k bs (x .0) (x .1)
+    go None none is = absurd (let z : _≡_ {A = ℕ} 0 1 = cc in omega arith)
+    go (Some ds) some is =
+        let read = number-ok ds (x .1) (x .0) (at-key-ok k (number ds) x is) in
+        record { text = front-after (opening k) bs ds some ∙ ap (λ l. opening k ++ l) (read .text); stops = read .stops; fits = read .fits }
 
 field-back : (k : Key) (n : ℕ) (rest : List ℕ) → n < 2 ^ 32 → leading asciiDigit rest ≡ 0 → field k (opening k ++ (decimal n ++ rest)) ≡ Ok (n, rest)
 unfolding field
@@ -55,16 +57,16 @@ end-ok : (f g : Frame) (bs : List ℕ) → atEnd f bs ≡ Ok g → (bs ≡ []) �
 end-ok f g [] is = (refl, cc)
 end-ok f g (b ∷ bs) is = absurd (let z : _≡_ {A = ℕ} 0 1 = cc in omega arith)
 
-form-ok : (bs : List ℕ) (f : Frame) → form bs ≡ Ok f → bs ≡ written f
+pub form-ok : (bs : List ℕ) (f : Frame) → form bs ≡ Ok f → bs ≡ written f
 unfolding written
 form-ok bs f is =
     let s = then-ok (field Size bs) _ f is in
     let r = then-ok (field Rate (s .0 .1)) _ f (s .1 .1) in
     let g = then-ok (field Grain (r .0 .1)) _ f (r .1 .1) in
     let e = end-ok _ f (g .0 .1) (g .1 .1) in
-    let last = field-ok Grain (r .0 .1) (g .0) (g .1 .0) ∙ ap (λ l. opening Grain ++ (decimal (g .0 .0) ++ l)) (e .0) ∙ ap (λ l. opening Grain ++ l) (append-nil _) in
-    let middle = field-ok Rate (s .0 .1) (r .0) (r .1 .0) ∙ ap (λ l. opening Rate ++ (decimal (r .0 .0) ++ l)) last in
-    field-ok Size bs (s .0) (s .1 .0) ∙ ap (λ l. opening Size ++ (decimal (s .0 .0) ++ l)) middle ∙ ap written (e .1)
+    let last = field-read Grain (r .0 .1) (g .0) (g .1 .0) .text ∙ ap (λ l. opening Grain ++ (decimal (g .0 .0) ++ l)) (e .0) ∙ ap (λ l. opening Grain ++ l) (append-nil _) in
+    let middle = field-read Rate (s .0 .1) (r .0) (r .1 .0) .text ∙ ap (λ l. opening Rate ++ (decimal (r .0 .0) ++ l)) last in
+    field-read Size bs (s .0) (s .1 .0) .text ∙ ap (λ l. opening Size ++ (decimal (s .0 .0) ++ l)) middle ∙ ap written (e .1)
 
 form-back : (f : Frame) → f .size < 2 ^ 32 → f .rate < 2 ^ 32 → f .grain < 2 ^ 32 → form (written f) ≡ Ok f
 unfolding written
@@ -76,7 +78,7 @@ form-back f s r g =
     let grain = ap (λ l. field Grain (opening Grain ++ l)) (sym (append-nil (decimal (f .grain)))) ∙ field-back Grain (f .grain) [] g refl in
     then-go _ _ _ size ∙ then-go _ _ _ rate ∙ then-go _ _ _ grain
 
-range-ok : (k : Key) (n : ℕ) → inRange k n ≡ Ok tt → Within (rangeOf k) n
+pub range-ok : (k : Key) (n : ℕ) → inRange k n ≡ Ok tt → Within (rangeOf k) n
 unfolding inRange
 range-ok k n is = record { low = grind (arith, tells); high = grind (arith, tells) }
 

@@ -1,7 +1,8 @@
 -- The first line of a text and the lines after it.
 use mathlib.Core.Path.{_≡_, refl, sym, ap, subst, _∙_}
 use mathlib.Core.Bool.{Bool, true, false, cond, not}
-use mathlib.Core.List.{List, [], _∷_, _++_}
+use mathlib.Core.List.{List, [], _∷_}
+use mathlib.Core.Logic.{inl, inr}
 use Prim.Native.Nat.{ℕ, suc, _+_, _-_, _<_}
 use native.Mathlib.Omega.{arith}
 use native.Mathlib.Numerals.{one-add}
@@ -9,7 +10,8 @@ use lib.Dec.{eqb}
 use lib.ListN.{length, take, drop, length-drop}
 use Rattle.std.proofs.shelf.Lists.{take-all, take-rest, drop-all}
 use Rattle.std.specs.shelf.Lists.{leading}
-use Rattle.frames.specs.Lines.{inFront, lines, noFeed, firstLine, afterLine}
+use Rattle.std.proofs.shelf.Ways.{decides-eqb, not-from-decides}
+use Rattle.frames.specs.Lines.{inFront, lines, noFeed, firstLine, afterLine, LinesOf}
 
 -- a text that is not empty is its first line and the lines after it
 pub lines-first : (bs : List ℕ) → 0 < length bs → lines bs ≡ firstLine bs ∷ lines (afterLine bs)
@@ -40,3 +42,16 @@ cut-nowhere bs is = (
   sym (ap (λ k. take k bs) is ∙ take-all (length bs) bs (omega arith)),
   take-rest bs (length bs) ∙ drop-all (length bs) bs (omega arith) ∙ sym (drop-all (suc (leading noFeed bs)) bs (omega arith)),
 )
+
+pub lines-are : (bs : List ℕ) → LinesOf (lines bs) bs
+lines-are [] = refl
+lines-are (b ∷ bs) = go (eqb b 10) refl (lines-are bs)
+  where
+    longer : (ls : List (List ℕ)) → (b ≡ 10 → ⊥) → LinesOf ls bs → LinesOf (inFront b ls) (b ∷ bs)
+    longer [] other none = ((other, tt), inr (ap (λ l. b ∷ l) none, (omega arith, refl)))
+    longer (l ∷ ls) other (clean, inl (rest, (text, more))) = ((other, clean), inl (rest, (ap (λ t. b ∷ t) text, more)))
+    longer (l ∷ ls) other (clean, inr (text, (some, last))) = ((other, clean), inr (ap (λ t. b ∷ t) text, (omega arith, last)))
+
+    go : (v : Bool) → eqb b 10 ≡ v → LinesOf (lines bs) bs → LinesOf (cond v ([] ∷ lines bs) (inFront b (lines bs))) (b ∷ bs)
+    go true is more = (tt, inl (bs, (ap (λ x. x ∷ bs) (decides-eqb b 10 .0 is), more)))
+    go false is more = longer (lines bs) (not-from-decides (eqb b 10) (decides-eqb b 10) is) more

@@ -3,6 +3,7 @@ ghost use mathlib.Core.Path.{_≡_};
 ghost use Rattle.std.specs.Of.String.{string-bytes};
 ghost use Rattle.std.specs.Vec.{made};
 ghost use Rattle.frames.specs.Answer.{answer as answerTo, Answered};
+ghost use Rattle.frames.specs.Lines.{lines, LinesOf};
 use crate::fault::Refusal;
 use crate::fault::RefusalDisplay;
 use crate::lines::cut_line;
@@ -48,7 +49,8 @@ fn answer_lines(out: &mut String, input: &[u8]) -> Result<Tally, fmt::Error>
 
 // What the program prints for `input`.
 pub fn answer(heap: Global, input: &[u8]) -> Result<String, fmt::Error>
-    ensures { λ r. ⌜ made r (λ text. string-bytes text ≡ answerTo (now (input .entry))) ⌝ }
+    ensures text { λ r. ⌜ made r (λ text. string-bytes text ≡ answerTo (now (input .entry))) ⌝ }
+    ensures lines { λ _. ⌜ LinesOf (lines (now (input .entry))) (now (input .entry)) ⌝ }
 {
     let mut out = String::new(heap);
     let tally = answer_lines(&mut out, input)?;

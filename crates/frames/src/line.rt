@@ -4,6 +4,7 @@ ghost use Rattle.std.specs.Options.{mapped};
 ghost use Rattle.frames.specs.Keys.{opening};
 ghost use Rattle.frames.specs.Number.{seen};
 ghost use Rattle.frames.specs.Line.{after, field as readField, form as readForm, inRange, allowed, readLine, ReadsExactly};
+ghost use Rattle.frames.specs.Refused.{Explained};
 use crate::fault::Fault;
 use crate::fault::Reason;
 use crate::key::Key;
@@ -83,6 +84,7 @@ fn check_ranges(frame: Frame) -> Result<Frame, Fault>
 pub fn read_line(line: &[u8]) -> Result<Frame, Fault>
     ensures value { λ r. ⌜ r ≡ readLine (now (line .entry)) ⌝ }
     ensures exact { λ r. ⌜ ReadsExactly (now (line .entry)) r ⌝ }
+    ensures explained { λ r. ⌜ Explained (now (line .entry)) r ⌝ }
 {
     check_ranges(form(line)?)
 }

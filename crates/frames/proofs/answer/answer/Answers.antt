@@ -1,0 +1,12 @@
+use borrow.Author.Needs.{needs}
+use Rattle.frames.proofs.FirstLine.{lines-are}
+use Rattle.frames.proofs.answer.answer.Needs as need
+
+pub returns-in-Break-tally : need.returns-in-Break-tally
+returns-in-Break-tally c = record { text = search needs; lines = lines-are (c .args .input .now) }
+
+pub returns-in-Break-writeln : need.returns-in-Break-writeln
+returns-in-Break-writeln c = record { text = search needs; lines = lines-are (c .args .input .now) }
+
+pub returns : need.returns
+returns c = record { text = search needs; lines = lines-are (c .args .input .now) }
