@@ -28,20 +28,22 @@ timed f = record { frame = f; steps = valueOr (stepsOf f) 0; micros = valueOr (m
 unfoldable pub timeLine : List ℕ → Result Timed Fault
 timeLine bs = andThen (readLine bs) (λ f. Ok (timed f))
 
--- the frames of the lines in front of the first that is refused
+-- one more frame in front of those of the later lines, or the end at a refusal
 abbrev pub acceptedThen : Result Timed Fault → List Timed → List Timed
 acceptedThen (Ok x) xs = x ∷ xs
 acceptedThen (Err e) xs = []
 
+-- the frames of the lines in front of the first that is refused
 abbrev pub accepted : List (List ℕ) → List Timed
 accepted [] = []
 accepted (l ∷ ls) = acceptedThen (timeLine l) (accepted ls)
 
--- the first line that is refused, where the first of all is line n
+-- the refusal of line n, or that of a later line
 abbrev pub refusedThen : ℕ → Result Timed Fault → Option Refusal → Option Refusal
 refusedThen n (Ok x) later = later
 refusedThen n (Err e) later = Some (record { line = n; fault = e })
 
+-- the first line that is refused, if any, where the first of all is line n
 abbrev pub refused : ℕ → List (List ℕ) → Option Refusal
 refused n [] = None
 refused n (l ∷ ls) = refusedThen n (timeLine l) (refused (suc n) ls)
@@ -54,9 +56,11 @@ tallyOf xs = record { frames = length xs; micros = sumBy (λ x. x .micros) xs }
 abbrev pub line : List ℕ → List ℕ
 line bs = bs ++ (10 ∷ [])
 
+-- the line that is written for a frame
 abbrev pub timedLine : Timed → List ℕ
 timedLine x = line (timedText x)
 
+-- the line that is written for a refusal, if there is one
 abbrev pub refusalLine : Option Refusal → List ℕ
 refusalLine None = []
 refusalLine (Some r) = line (refusalText r)
@@ -65,7 +69,7 @@ refusalLine (Some r) = line (refusalText r)
 abbrev pub answerLines : List ℕ → List ℕ
 answerLines bs = joined timedLine (accepted (lines bs)) ++ refusalLine (refused 1 (lines bs))
 
--- then the tally
+-- those lines, and then the tally
 abbrev pub answer : List ℕ → List ℕ
 answer bs = answerLines bs ++ line (tallyText (tallyOf (accepted (lines bs))))
 

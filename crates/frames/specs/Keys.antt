@@ -2,8 +2,10 @@
 use mathlib.Core.List.{List}
 use Prim.Native.Nat.{ℕ}
 use lib.Chars.{codes}
-use Rattle.network.specs.Ranges.{sizes, rates, grains}
-use Rattle.network.specs.declared.range.Range.{Range}
+use Rattle.network.specs.Ranges.{rangeOf as quantityRange}
+use Rattle.network.specs.declared.Quantity.{Quantity}
+use Rattle.network.specs.declared.Quantity.the-variants as quantity
+use Rattle.network.specs.declared.Range.{Range}
 use Rattle.frames.specs.declared.key.Key.{Key}
 use Rattle.frames.specs.declared.key.Key.the-variants.{Size, Rate, Grain}
 
@@ -15,6 +17,6 @@ opening Grain = codes " grain="
 
 -- the numbers that the key may have
 abbrev pub rangeOf : Key → Range
-rangeOf Size = sizes
-rangeOf Rate = rates
-rangeOf Grain = grains
+rangeOf Size = quantityRange quantity.Size
+rangeOf Rate = quantityRange quantity.Rate
+rangeOf Grain = quantityRange quantity.Grain

@@ -10,7 +10,7 @@ use Rattle.std.specs.declared.result.Result.{Result}
 use Rattle.std.specs.declared.result.Result.the-variants.{Ok, Err}
 use Rattle.std.specs.Results.{Cases}
 use Rattle.std.specs.Written.{decimal}
-use Rattle.network.specs.Ranges.{Within, sizes, rates, grains}
+use Rattle.network.specs.Ranges.{Within}
 use Rattle.network.specs.declared.Frame.{Frame}
 use Rattle.frames.specs.declared.fault.Fault.{Fault}
 use Rattle.frames.specs.declared.fault.Reason.{Reason}
@@ -35,10 +35,12 @@ after (p ∷ ps) (b ∷ bs) = cond (eqb p b) (after ps bs) None
 abbrev pub refuse : {A : Type 0} → Key → Reason → Result A Fault
 refuse k why = Err (record { key = k; reason = why })
 
+-- what was read, or the refusal at key k for the same reason
 abbrev pub atKey : {A : Type 0} → Key → Result A Reason → Result A Fault
 atKey k (Ok x) = Ok x
 atKey k (Err why) = refuse k why
 
+-- the number of key k in the text after its opening, and the text after it; none: the key does not stand there
 abbrev pub numberAfter : Key → Option (List ℕ) → Result (ℕ × List ℕ) Fault
 numberAfter k None = refuse k KeyExpected
 numberAfter k (Some bs) = atKey k (number bs)
@@ -78,9 +80,9 @@ written f = opening Size ++ (decimal (f .size) ++ (opening Rate ++ (decimal (f .
 
 -- each key may have the frame's number
 pub record Allowed (f : Frame) : Type 0 where
-  pub size : Within sizes (f .size)
-  pub rate : Within rates (f .rate)
-  pub grain : Within grains (f .grain)
+  pub size : Within (rangeOf Size) (f .size)
+  pub rate : Within (rangeOf Rate) (f .rate)
+  pub grain : Within (rangeOf Grain) (f .grain)
 
 -- a line is accepted exactly when it is the line of an allowed frame, and that frame is answered
 abbrev pub ReadsExactly : List ℕ → Result Frame Fault → Type 0

@@ -18,13 +18,15 @@ abbrev pub lines : List ℕ → List (List ℕ)
 lines [] = []
 lines (b ∷ bs) = cond (eqb b 10) ([] ∷ lines bs) (inFront b (lines bs))
 
+-- any byte but a line feed
 abbrev pub noFeed : ℕ → Bool
 noFeed b = not (eqb b 10)
 
--- a text up to its first line feed, and from there on
+-- a text up to its first line feed, or all of it
 abbrev pub firstLine : List ℕ → List ℕ
 firstLine bs = take (leading noFeed bs) bs
 
+-- what follows the first line feed, or nothing
 abbrev pub afterLine : List ℕ → List ℕ
 afterLine bs = drop (suc (leading noFeed bs)) bs
 

@@ -11,7 +11,7 @@ use Rattle.std.specs.Written.{decimal}
 use Rattle.std.specs.shelf.Lists.{leading}
 use Rattle.std.specs.shelf.Text.{allDigits}
 use Rattle.std.specs.declared.result.Result.{Result}
-use Rattle.network.specs.Ranges.{Within, sizes, rates, grains}
+use Rattle.network.specs.Ranges.{Within}
 use Rattle.network.specs.declared.Frame.{Frame}
 use Rattle.network.specs.declared.Range.{Range}
 use Rattle.frames.specs.declared.fault.Fault.{Fault}
@@ -19,7 +19,7 @@ use Rattle.frames.specs.declared.fault.Reason.{Reason}
 use Rattle.frames.specs.declared.fault.Reason.the-variants.{KeyExpected, DigitExpected, LeadingZero, Below, Above, EndExpected}
 use Rattle.frames.specs.declared.key.Key.{Key}
 use Rattle.frames.specs.declared.key.Key.the-variants.{Size, Rate, Grain}
-use Rattle.frames.specs.Keys.{opening}
+use Rattle.frames.specs.Keys.{opening, rangeOf}
 use Rattle.frames.specs.Line.{written}
 use Rattle.frames.specs.Number.{valueOf}
 
@@ -75,9 +75,9 @@ Outside r n EndExpected = ⊥
 
 -- the key has a number that it may not have, and the keys before it have none such
 abbrev pub FirstOutside : Frame → Key → Reason → Type 0
-FirstOutside f Size why = Outside sizes (f .size) why
-FirstOutside f Rate why = Within sizes (f .size) × Outside rates (f .rate) why
-FirstOutside f Grain why = Within sizes (f .size) × (Within rates (f .rate) × Outside grains (f .grain) why)
+FirstOutside f Size why = Outside (rangeOf Size) (f .size) why
+FirstOutside f Rate why = Within (rangeOf Size) (f .size) × Outside (rangeOf Rate) (f .rate) why
+FirstOutside f Grain why = Within (rangeOf Size) (f .size) × (Within (rangeOf Rate) (f .rate) × Outside (rangeOf Grain) (f .grain) why)
 
 -- the line is that of a frame, with a number that its key may not have
 pub record Outlying (line : List ℕ) (e : Fault) : Type 0 where
@@ -85,6 +85,7 @@ pub record Outlying (line : List ℕ) (e : Fault) : Type 0 where
   pub text : line ≡ written frame
   pub outside : FirstOutside frame (e .key) (e .reason)
 
+-- the three ways in which a line can be refused
 abbrev pub Explains : List ℕ → Fault → Type 0
 Explains line e = Malformed line e ⊎ (Overlong line e ⊎ Outlying line e)
 

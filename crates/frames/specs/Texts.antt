@@ -12,11 +12,13 @@ use Rattle.frames.specs.declared.tally.Tally.{Tally}
 use Rattle.frames.specs.declared.timed.Timed.{Timed}
 use Rattle.frames.specs.Line.{written}
 
+-- the name of a key
 abbrev pub keyText : Key → List ℕ
 keyText Size = codes "size"
 keyText Rate = codes "rate"
 keyText Grain = codes "grain"
 
+-- why a line is refused
 abbrev pub reasonText : Reason → List ℕ
 reasonText KeyExpected = codes "key expected"
 reasonText DigitExpected = codes "digit expected"

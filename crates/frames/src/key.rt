@@ -3,10 +3,8 @@ ghost use mathlib.Core.Path.{_≡_};
 ghost use Rattle.frames.specs.Keys.{opening, rangeOf};
 ghost use Rattle.std.specs.declared.option.Option.the-variants.{Some};
 ghost use Rattle.frames.specs.Texts.{keyText};
-use network::GRAIN;
-use network::RATE;
+use network::Quantity;
 use network::Range;
-use network::SIZE;
 use std::fmt;
 
 // The keys in the order in which a line has them.
@@ -34,9 +32,9 @@ impl Key {
         ensures { λ r. ⌜ r ≡ rangeOf self ⌝ }
     {
         match self {
-            Key::Size => SIZE,
-            Key::Rate => RATE,
-            Key::Grain => GRAIN,
+            Key::Size => Quantity::Size.range(),
+            Key::Rate => Quantity::Rate.range(),
+            Key::Grain => Quantity::Grain.range(),
         }
     }
 }

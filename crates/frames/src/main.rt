@@ -6,15 +6,19 @@ mod line;
 mod lines;
 mod number;
 mod tally;
-#[cfg(test)]
-mod tests;
 mod timed;
 
 use std::io;
 use std::io::Read;
 
-fn main(rt: LibcRuntime) -> io::Result<()> {
-    let mut input = Vec::new(rt.alloc());
+// Answers standard input on standard output.
+fn run(rt: &LibcRuntime) -> io::Result<()> {
+    let heap = rt.alloc();
+    let mut input = Vec::new(heap);
     rt.stdin().read_to_end(&mut input)?;
-    rt.print(answer::answer(rt.alloc(), input.as_slice())?)
+    rt.print(answer::answer(heap, input.as_slice())?)
+}
+
+fn main(rt: LibcRuntime) -> io::Result<()> {
+    rt.report(run(&rt))
 }
