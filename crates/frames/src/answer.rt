@@ -22,7 +22,7 @@ fn answer_lines(out: &mut String, input: &[u8]) -> Result<Tally, fmt::Error>
         frames: 0,
         micros: 0,
     };
-    let mut line_number = 0;
+    let mut line_number: usize = 0;
     let mut rest = input;
     while !rest.is_empty() {
         let (line, after) = cut_line(rest);
