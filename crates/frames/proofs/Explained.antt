@@ -12,7 +12,6 @@ use Rattle.std.specs.declared.option.Option.{Option}
 use Rattle.std.specs.declared.option.Option.the-variants.{Some, None}
 use Rattle.std.specs.declared.result.Result.{Result}
 use Rattle.std.specs.declared.result.Result.the-variants.{Ok, Err}
-use Rattle.network.specs.Ranges.{Within}
 use Rattle.network.specs.declared.Frame.{Frame}
 use Rattle.frames.specs.declared.fault.Fault.{Fault}
 use Rattle.frames.specs.declared.fault.Reason.{Reason}
@@ -21,8 +20,8 @@ use Rattle.frames.specs.declared.key.Key.{Key}
 use Rattle.frames.specs.declared.key.Key.the-variants.{Size, Rate, Grain}
 use Rattle.frames.specs.Keys.{opening, rangeOf}
 use Rattle.frames.specs.Number.{number}
-use Rattle.frames.specs.Line.{andThen, after, atKey, numberAfter, field, atEnd, form, inRange, allowed, readLine, written, refuse}
-use Rattle.frames.specs.Refused.{Field, At, BadNumber, Malformed, Overlong, Outside, FirstOutside, Outlying, Explains, Explained}
+use Rattle.frames.specs.Line.{andThen, after, atKey, numberAfter, field, atEnd, form, inRange, allowed, readLine, refuse}
+use Rattle.frames.specs.Refused.{At, BadNumber, Malformed, Overlong, Outside, FirstOutside, Explained}
 use Rattle.frames.proofs.Openings.{after-front, front-after}
 use Rattle.frames.proofs.Decimal.{number-err}
 use Rattle.frames.proofs.Exact.{field-read, form-ok, range-ok}

@@ -1,5 +1,5 @@
 -- One line after the other.
-use mathlib.Core.Path.{_≡_, refl, sym, ap, subst, _∙_}
+use mathlib.Core.Path.{_≡_, refl, sym, ap, _∙_}
 use mathlib.Core.List.{List, [], _∷_, _++_, append-assoc, append-nil}
 use Prim.Native.Nat.{ℕ, suc, _+_, _*_, _^_, _≤_, _<_}
 use native.Mathlib.Omega.{arith}
@@ -9,14 +9,13 @@ use Rattle.std.proofs.shelf.Lists.{length-push, joined-more}
 use Rattle.std.proofs.shelf.Sums.{sumBy-push}
 use Rattle.std.specs.Joined.{joined}
 use Rattle.std.specs.shelf.Lists.{sumBy}
-use Rattle.std.specs.declared.option.Option.the-variants.{Some, None}
+use Rattle.std.specs.declared.option.Option.the-variants.{Some}
 use Rattle.std.specs.declared.result.Result.the-variants.{Ok, Err}
 use Rattle.frames.specs.declared.fault.Fault.{Fault}
-use Rattle.frames.specs.declared.fault.Refusal.{Refusal}
 use Rattle.frames.specs.declared.tally.Tally.{Tally}
 use Rattle.frames.specs.declared.timed.Timed.{Timed}
 use Rattle.frames.specs.Lines.{lines, firstLine, afterLine}
-use Rattle.frames.specs.Answer.{timeLine, acceptedThen, accepted, refusedThen, refused, tallyOf, timedLine, refusalLine, answerLines, Answered, line}
+use Rattle.frames.specs.Answer.{timeLine, acceptedThen, accepted, refusedThen, refused, tallyOf, timedLine, refusalLine, Answered, line}
 use Rattle.frames.specs.Texts.{refusalText}
 use Rattle.frames.proofs.FirstLine.{lines-first, after-shorter}
 

@@ -3,7 +3,6 @@ use mathlib.Core.List.{List}
 use Prim.Native.Nat.{ℕ}
 use lib.Chars.{codes}
 use Rattle.network.specs.Ranges.{rangeOf as quantityRange}
-use Rattle.network.specs.declared.Quantity.{Quantity}
 use Rattle.network.specs.declared.Quantity.the-variants as quantity
 use Rattle.network.specs.declared.Range.{Range}
 use Rattle.frames.specs.declared.key.Key.{Key}

@@ -155,6 +155,10 @@ mod tests {
                 "grain reason=number above 1000000",
             ),
             (
+                "size=5 rate=1 grain=4294967296",
+                "grain reason=number above 4294967295",
+            ),
+            (
                 "size=5 rate=1 grain=1 ",
                 "grain reason=end of line expected",
             ),

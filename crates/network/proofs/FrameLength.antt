@@ -1,6 +1,6 @@
 -- The length of a frame: that it is the least, and that its µs are a number of 64 bits.
 use mathlib.Core.Path.{_≡_, refl, ap, _∙_}
-use Prim.Native.Nat.{ℕ, zero, suc, _+_, _*_, _^_, _≤_, _<_}
+use Prim.Native.Nat.{ℕ, zero, suc, _*_, _^_, _≤_, _<_}
 use native.Mathlib.Nat.{zero-mul, mul-zero, suc-mul, mul-assoc, mul-comm, mul-pos, mul-le-mul-right, le-mul-of-pos-right, pos-of-ne-zero, lt-of-not-le}
 use native.Mathlib.Omega.{arith}
 use Rattle.std.proofs.shelf.Ways.{tells}

@@ -1,7 +1,7 @@
 -- Rounding up gives the least multiple that is large enough.
 use mathlib.Core.Logic.{_⊎_, inl, inr, ⊎-elim}
-use Prim.Native.Nat.{ℕ, zero, suc, _+_, _*_, _/_, _%_, _≤_, _<_, min}
-use native.Mathlib.Nat.{mod-lt, div-add-mod', add-mul, one-mul, zero-mul, mul-assoc, mul-pos, le-of-mul-le-mul-right, lt-of-mul-lt-mul-right, le-mul-of-pos-right}
+use Prim.Native.Nat.{ℕ, zero, suc, _*_, _/_, _%_, _≤_, _<_, min}
+use native.Mathlib.Nat.{mod-lt, div-add-mod', add-mul, one-mul, le-of-mul-le-mul-right, lt-of-mul-lt-mul-right}
 use native.Mathlib.Omega.{arith}
 use mathlib.Core.Path.{_≡_}
 use Rattle.network.specs.FrameTime.{roundUp}

@@ -1,7 +1,6 @@
-use mathlib.Core.Path.{sym, ap}
+use mathlib.Core.Path.{ap}
 use Prim.Native.Nat.{_*_}
 use native.Mathlib.Omega.{arith}
-use borrow.Author.Needs.{needs}
 use Rattle.std.specs.Options.{mapped}
 use Rattle.network.proofs.FrameLength.{micros-fit, time-least}
 use Rattle.network.proofs.frame.Frame.micros.Needs as need
