@@ -1,0 +1,5 @@
+pub mod Times
+pub mod Unbounded
+pub mod Lowest
+pub mod Clashing
+pub mod Keeping

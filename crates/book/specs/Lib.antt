@@ -1,0 +1,10 @@
+pub mod Lowest
+pub mod Below
+pub mod Holding
+pub mod Form
+pub mod Causes
+pub mod Meaning
+pub mod Calls
+pub mod Sound
+pub mod Steps
+pub mod Cases
