@@ -20,7 +20,7 @@ use Rattle.book.specs.Form.{wellFormed, GoodForm}
 use Rattle.book.specs.Holding.{Meet, meets}
 use Rattle.book.specs.Lowest.{lowest}
 use Rattle.book.specs.Meaning.{Meaning, numbered, linked, present}
-use Rattle.book.specs.Sound.{Stands, Proper, Sound, WouldMeet, Clashes, ClashExactly}
+use Rattle.book.specs.Sound.{Stands, Suits, Proper, Sound, WouldMeet, Clashes, ClashExactly}
 use Rattle.book.proofs.Lowest.{Found, nowhere, somewhere, found}
 use Rattle.book.proofs.Unbounded.{meets-decides}
 
@@ -52,7 +52,7 @@ fit m n w is = go (numbered n && present m (w .link)) refl (wellFormed (m .cycle
     go : (a : Bool) → (numbered n && present m (w .link)) ≡ a → (b : Bool) → wellFormed (m .cycle (w .link)) (m .rest (w .link)) w ≡ b → (o : Option Window) → m .windows n ≡ o → tests a b o n (m .rest (w .link)) ≡ Ok tt → Fit m n w
     go true there true good None free is =
         let parts = both (numbered n) (present m (w .link)) there in
-        record { proper = record { number = parts .0; link = parts .1; form = form-good _ _ w good }; free = free }
+        record { proper = record { number = parts .0; suits = record { link = parts .1; form = form-good _ _ w good } }; free = free }
     go true there true good (Some v) taken is = absurd (let z : _≡_ {A = ℕ} 0 1 = cc in omega arith)
     go true there false bad o at is = absurd (let z : _≡_ {A = ℕ} 0 1 = cc in omega arith)
     go false absent b form o at is = absurd (let z : _≡_ {A = ℕ} 0 1 = cc in omega arith)
@@ -72,14 +72,14 @@ unfit-no-clash m n w i k is = go (numbered n && present m (w .link)) (wellFormed
 number-range : (k : ℕ) → numbered k ≡ true → (1 ≤ k) × (k ≤ 256)
 number-range k is = (grind (arith, tells), grind (arith, tells))
 
-module _ {m : Meaning} (sound : Sound m) {n : ℕ} {w : Window} (fits : Fit m n w) where
+module _ {m : Meaning} (sound : Sound m) {w : Window} (suits : Suits m w) where
   good-there : (k : ℕ) (v : Window) → Stands m k v → v .link ≡ w .link → GoodForm (m .cycle (w .link)) (m .rest (w .link)) v
   good-there k v stands same =
       let At : ℕ → Type 0 = λ l. GoodForm (m .cycle l) (m .rest l) v in
-      subst At same (sound .proper k v stands .form)
+      subst At same (sound .proper k v stands .suits .form)
 
   meeting : (k : ℕ) (v : Window) → Stands m k v → v .link ≡ w .link → Decides (meets (m .cycle (w .link)) (m .rest (w .link)) v w) (Meet (m .rest (w .link)) v w)
-  meeting k v stands same = meets-decides v w _ _ (cycle-some m (w .link) (fits .proper .link)) (good-there k v stands same) (fits .proper .form)
+  meeting k v stands same = meets-decides v w _ _ (cycle-some m (w .link) (suits .link)) (good-there k v stands same) (suits .form)
 
   -- the test of one number says whether the window would meet that number's
   pub meets-standing : (k : ℕ) → Decides (meetsStanding m w (m .windows k)) (WouldMeet m w k)
@@ -132,10 +132,10 @@ clash-exactly m n w r sound is = record { refused = λ i k clash. back i k (unfi
     back i k (Ok x) fits (Some j) some clash =
         let same : i ≡ n = cc in
         let number : j ≡ k = cc in
-        let met = met-some sound (fit m n w fits) k (some ∙ ap Some number) in
+        let met = met-some sound (fit m n w fits .proper .suits) k (some ∙ ap Some number) in
         (same, record { fits = fits; meets = met .0; lowest = met .1 })
     back i k (Err e) early o met clash = absurd (unfit-no-clash m n w i k (early ∙ clash))
 
     there : unfit n w m ≡ Ok tt → (k : ℕ) → WouldMeet m w k → (o : Option ℕ) → firstMet m w ≡ o → (j : ℕ) × (r ≡ Err (Clash n j))
-    there fits k would None none = absurd (met-none sound (fit m n w fits) none k would)
+    there fits k would None none = absurd (met-none sound (fit m n w fits .proper .suits) none k would)
     there fits k would (Some j) some = (j, is ∙ (λ i. andOther (fits i) (unmet n (some i))))

@@ -35,6 +35,10 @@ stands-with m n o k w P stands new old = go (eqb k n) refl stands
     go true same is = new (decides-eqb k n .0 same) is
     go false other is = old (not-from-decides _ (decides-eqb k n) other) is
 
+-- a window that is proper stays so whatever stands under another number
+kept-proper : (m : Meaning) (n : ℕ) (o : Option Window) (k : ℕ) (w : Window) → Proper m k w → Proper (with n o m) k w
+kept-proper m n o k w was = record { number = was .number; suits = record { link = was .suits .link; form = was .suits .form } }
+
 pub lift-sound : (m : Meaning) (n : ℕ) → Sound m → Sound (liftAfter n m)
 lift-sound m n sound = go (liftAnswer n m)
   where
@@ -45,7 +49,7 @@ lift-sound m n sound = go (liftAnswer n m)
     go (Ok w) = record {
       cycles = sound .cycles;
       rests = sound .rests;
-      proper = λ k w stands. let was = sound .proper k w (stood k w stands) in record { number = was .number; link = was .link; form = was .form };
+      proper = λ k w stands. kept-proper m n None k w (sound .proper k w (stood k w stands));
       apart = λ i j v w other one two. sound .apart i j v w other (stood i v one) (stood j w two);
     }
     go (Err e) = sound
@@ -57,7 +61,7 @@ new-apart m n w sound fits none j v u is stands same s held also =
     let link : u .link ≡ w .link = sym same ∙ ap (λ x. x .link) new in
     let New : Window → Type 0 = λ x. Holds x (m .rest (x .link)) s in
     let At : ℕ → Type 0 = λ l. Holds u (m .rest l) s in
-    met-none sound fits none j (u, (stands, (link, (s, (subst At link also, subst New new held)))))
+    met-none sound (fits .proper .suits) none j (u, (stands, (link, (s, (subst At link also, subst New new held)))))
 
 pub book-sound : (m : Meaning) (n : ℕ) (w : Window) → Sound m → Sound (bookAfter n w m)
 book-sound m n w sound = go (unfit n w m) refl (firstMet m w) refl
@@ -72,8 +76,8 @@ book-sound m n w sound = go (unfit n w m) refl (firstMet m w) refl
           rests = sound .rests;
           proper = λ k v stands.
               stands-with m n (Some w) k v _ stands
-              (λ same is. let At : ℕ → Type 0 = λ i. Proper m i w in let New : Window → Type 0 = λ x. Proper (with n (Some w) m) k x in let was = subst At (sym same) (fitting .proper) in let equal : w ≡ v = cc in subst New equal (record { number = was .number; link = was .link; form = was .form }))
-              (λ other was. let old = sound .proper k v was in record { number = old .number; link = old .link; form = old .form });
+              (λ same is. let At : ℕ → Type 0 = λ i. Proper m i w in let New : Window → Type 0 = λ x. Proper (with n (Some w) m) k x in let was = subst At (sym same) (fitting .proper) in let equal : w ≡ v = cc in subst New equal (kept-proper m n (Some w) k w was))
+              (λ other was. kept-proper m n (Some w) k v (sound .proper k v was));
           apart = λ i j v u other one two same s held also.
               stands-with m n (Some w) i v ⊥ one
               (λ first is.

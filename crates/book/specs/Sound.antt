@@ -17,11 +17,15 @@ use Rattle.book.specs.Meaning.{Meaning, numbered, present}
 abbrev pub Stands : Meaning → ℕ → Window → Type 0
 Stands m n w = m .windows n ≡ Some w
 
--- a standing window has one of the 256 numbers, its link is there, and it is of good form
-pub record Proper (m : Meaning) (n : ℕ) (w : Window) : Type 0 where
-  pub number : numbered n ≡ true
+-- the link of window w is there, and w is of good form on it
+pub record Suits (m : Meaning) (w : Window) : Type 0 where
   pub link : present m (w .link) ≡ true
   pub form : GoodForm (m .cycle (w .link)) (m .rest (w .link)) w
+
+-- a standing window has one of the 256 numbers and suits its link
+pub record Proper (m : Meaning) (n : ℕ) (w : Window) : Type 0 where
+  pub number : numbered n ≡ true
+  pub suits : Suits m w
 
 -- no two standing windows of one link ever hold one step
 abbrev pub Apart : Meaning → Type 0

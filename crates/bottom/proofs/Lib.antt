@@ -1,0 +1,4 @@
+pub mod Remainders
+pub mod Slots
+pub mod Common
+pub mod Grounds
