@@ -4,25 +4,24 @@ use mathlib.Core.List.{List, [], _∷_, _++_, append-nil}
 use Prim.Native.Nat.{ℕ, _<_, _^_}
 use native.Mathlib.Omega.{arith}
 use Rattle.std.proofs.shelf.Ways.{tells}
-use Rattle.std.specs.Text.{asciiDigit}
 use Rattle.std.specs.Written.{decimal}
-use Rattle.std.specs.shelf.Lists.{leading}
 use Rattle.std.specs.declared.option.Option.{Option}
 use Rattle.std.specs.declared.option.Option.the-variants.{Some, None}
 use Rattle.std.specs.declared.result.Result.{Result}
 use Rattle.std.specs.declared.result.Result.the-variants.{Ok, Err}
 use Rattle.network.specs.Ranges.{Within}
 use Rattle.network.specs.declared.Frame.{Frame}
+use Rattle.text.specs.Front.{after}
+use Rattle.text.specs.Number.{number, NoDigit}
+use Rattle.text.specs.declared.NumberFault.{NumberFault}
+use Rattle.text.proofs.Fronts.{after-front, front-after}
+use Rattle.text.proofs.Decimal.{number-ok, number-back}
 use Rattle.frames.specs.declared.fault.Fault.{Fault}
-use Rattle.frames.specs.declared.fault.Reason.{Reason}
 use Rattle.frames.specs.declared.key.Key.{Key}
 use Rattle.frames.specs.declared.key.Key.the-variants.{Size, Rate, Grain}
 use Rattle.frames.specs.Keys.{opening, rangeOf}
-use Rattle.frames.specs.Number.{number}
-use Rattle.frames.specs.Line.{andThen, after, atKey, numberAfter, field, atEnd, form, inRange, allowed, readLine, written, Allowed, ReadsExactly}
+use Rattle.frames.specs.Line.{andThen, atKey, numberAfter, field, atEnd, form, inRange, allowed, readLine, written, Allowed, ReadsExactly}
 use Rattle.frames.specs.Refused.{Field}
-use Rattle.frames.proofs.Openings.{after-front, front-after}
-use Rattle.frames.proofs.Decimal.{number-ok, number-back}
 
 -- what was read before something else was accepted
 then-ok : {A B E : Type 0} (r : Result A E) (f : A → Result B E) (y : B) → andThen r f ≡ Ok y → (x : A) × ((r ≡ Ok x) × (f x ≡ Ok y))
@@ -32,7 +31,7 @@ then-ok (Err e) f y is = absurd (let z : _≡_ {A = ℕ} 0 1 = cc in omega arith
 then-go : {A B E : Type 0} (r : Result A E) (f : A → Result B E) (x : A) → r ≡ Ok x → andThen r f ≡ f x
 then-go r f x is = ap (λ q. andThen q f) is
 
-at-key-ok : {A : Type 0} (k : Key) (r : Result A Reason) (x : A) → atKey k r ≡ Ok x → r ≡ Ok x
+at-key-ok : {A : Type 0} (k : Key) (r : Result A NumberFault) (x : A) → atKey k r ≡ Ok x → r ≡ Ok x
 at-key-ok k (Ok y) x is = cc
 at-key-ok k (Err why) x is = cc
 
@@ -47,7 +46,7 @@ field-read k bs x is = go (after (opening k) bs) refl is
         let read = number-ok ds (x .1) (x .0) (at-key-ok k (number ds) x is) in
         record { text = front-after (opening k) bs ds some ∙ ap (λ l. opening k ++ l) (read .text); stops = read .stops; fits = read .fits }
 
-field-back : (k : Key) (n : ℕ) (rest : List ℕ) → n < 2 ^ 32 → leading asciiDigit rest ≡ 0 → field k (opening k ++ (decimal n ++ rest)) ≡ Ok (n, rest)
+field-back : (k : Key) (n : ℕ) (rest : List ℕ) → n < 2 ^ 32 → NoDigit rest → field k (opening k ++ (decimal n ++ rest)) ≡ Ok (n, rest)
 unfolding field
 field-back k n rest fits stop =
     ap (numberAfter k) (after-front (opening k) (decimal n ++ rest)) ∙ ap (atKey k) (number-back n rest fits stop)

@@ -13,17 +13,19 @@ use Rattle.std.specs.declared.option.Option.the-variants.{Some, None}
 use Rattle.std.specs.declared.result.Result.{Result}
 use Rattle.std.specs.declared.result.Result.the-variants.{Ok, Err}
 use Rattle.network.specs.declared.Frame.{Frame}
+use Rattle.text.specs.Front.{after}
+use Rattle.text.specs.Number.{number, BadNumber}
+use Rattle.text.specs.declared.NumberFault.{NumberFault}
+use Rattle.text.proofs.Fronts.{after-front, front-after}
+use Rattle.text.proofs.Decimal.{number-err}
 use Rattle.frames.specs.declared.fault.Fault.{Fault}
 use Rattle.frames.specs.declared.fault.Reason.{Reason}
 use Rattle.frames.specs.declared.fault.Reason.the-variants.{KeyExpected, Below, Above, EndExpected}
 use Rattle.frames.specs.declared.key.Key.{Key}
 use Rattle.frames.specs.declared.key.Key.the-variants.{Size, Rate, Grain}
 use Rattle.frames.specs.Keys.{opening, rangeOf}
-use Rattle.frames.specs.Number.{number}
-use Rattle.frames.specs.Line.{andThen, after, atKey, numberAfter, field, atEnd, form, inRange, allowed, readLine, refuse}
-use Rattle.frames.specs.Refused.{At, BadNumber, Malformed, Overlong, Outside, FirstOutside, Explained}
-use Rattle.frames.proofs.Openings.{after-front, front-after}
-use Rattle.frames.proofs.Decimal.{number-err}
+use Rattle.frames.specs.Line.{andThen, numberReason, atKey, numberAfter, field, atEnd, form, inRange, allowed, readLine, refuse}
+use Rattle.frames.specs.Refused.{At, Malformed, Overlong, Outside, FirstOutside, Explained}
 use Rattle.frames.proofs.Exact.{field-read, form-ok, range-ok}
 
 abbrev fault : Key → Reason → Fault
@@ -31,11 +33,11 @@ fault k why = record { key = k; reason = why }
 
 -- what is wrong at key k, where the text stands
 abbrev Wrong : Key → List ℕ → Reason → Type 0
-Wrong k text why = ((why ≡ KeyExpected) × ((rest : List ℕ) → text ≡ opening k ++ rest → ⊥)) ⊎ ((rest : List ℕ) × ((text ≡ opening k ++ rest) × BadNumber rest why))
+Wrong k text why = ((why ≡ KeyExpected) × ((rest : List ℕ) → text ≡ opening k ++ rest → ⊥)) ⊎ ((rest : List ℕ) × ((text ≡ opening k ++ rest) × ((bad : NumberFault) × ((why ≡ numberReason bad) × BadNumber rest bad))))
 
-at-key-err : {A : Type 0} (k : Key) (r : Result A Reason) (e : Fault) → atKey k r ≡ Err e → (why : Reason) × ((e ≡ fault k why) × (r ≡ Err why))
+at-key-err : {A : Type 0} (k : Key) (r : Result A NumberFault) (e : Fault) → atKey k r ≡ Err e → (bad : NumberFault) × ((e ≡ fault k (numberReason bad)) × (r ≡ Err bad))
 at-key-err k (Ok x) e is = absurd (let z : _≡_ {A = ℕ} 0 1 = cc in omega arith)
-at-key-err k (Err why) e is = (why, (cc, refl))
+at-key-err k (Err bad) e is = (bad, (cc, refl))
 
 field-err : (k : Key) (bs : List ℕ) (e : Fault) → field k bs ≡ Err e → (why : Reason) × ((e ≡ fault k why) × Wrong k bs why)
 unfolding field
@@ -45,7 +47,7 @@ field-err k bs e is = go (after (opening k) bs) refl is
     go None none is = (KeyExpected, (cc, inl (refl, λ rest same. let found = ap (after (opening k)) same ∙ after-front (opening k) rest in let z : _≡_ {A = ℕ} 0 1 = cc in omega arith)))
     go (Some rest) some is =
         let blamed = at-key-err k (number rest) e is in
-        (blamed .0, (blamed .1 .0, inr (rest, (front-after (opening k) bs rest some, number-err rest (blamed .0) (blamed .1 .1)))))
+        (numberReason (blamed .0), (blamed .1 .0, inr (rest, (front-after (opening k) bs rest some, (blamed .0, (refl, number-err rest (blamed .0) (blamed .1 .1)))))))
 
 -- what was refused, or what was read before something else was refused
 then-err : {A B E : Type 0} (r : Result A E) (f : A → Result B E) (e : E) → andThen r f ≡ Err e → (r ≡ Err e) ⊎ ((x : A) × ((r ≡ Ok x) × (f x ≡ Err e)))

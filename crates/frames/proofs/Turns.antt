@@ -11,13 +11,13 @@ use Rattle.std.specs.Joined.{joined}
 use Rattle.std.specs.shelf.Lists.{sumBy}
 use Rattle.std.specs.declared.option.Option.the-variants.{Some}
 use Rattle.std.specs.declared.result.Result.the-variants.{Ok, Err}
+use Rattle.text.specs.Lines.{lines, firstLine, afterLine}
+use Rattle.text.proofs.FirstLine.{lines-first, after-shorter}
 use Rattle.frames.specs.declared.fault.Fault.{Fault}
 use Rattle.frames.specs.declared.tally.Tally.{Tally}
 use Rattle.frames.specs.declared.timed.Timed.{Timed}
-use Rattle.frames.specs.Lines.{lines, firstLine, afterLine}
 use Rattle.frames.specs.Answer.{timeLine, acceptedThen, accepted, refusedThen, refused, tallyOf, timedLine, refusalLine, Answered, line}
 use Rattle.frames.specs.Texts.{refusalText}
-use Rattle.frames.proofs.FirstLine.{lines-first, after-shorter}
 
 -- n lines of the input bs are answered, each with a frame, and rest is left
 pub record Sofar (bs rest : List ℕ) (n : ℕ) (old new : List ℕ) (t : Tally) : Type 0 where

@@ -12,12 +12,12 @@ use Rattle.std.specs.declared.result.Result.{Result}
 use Rattle.std.specs.declared.result.Result.the-variants.{Ok, Err}
 use Rattle.network.specs.FrameTime.{stepsOf, microsOf}
 use Rattle.network.specs.declared.Frame.{Frame}
+use Rattle.text.specs.Lines.{lines}
 use Rattle.frames.specs.declared.fault.Fault.{Fault}
 use Rattle.frames.specs.declared.fault.Refusal.{Refusal}
 use Rattle.frames.specs.declared.tally.Tally.{Tally}
 use Rattle.frames.specs.declared.timed.Timed.{Timed}
 use Rattle.frames.specs.Line.{andThen, readLine}
-use Rattle.frames.specs.Lines.{lines}
 use Rattle.frames.specs.Texts.{timedText, refusalText, tallyText}
 
 -- a frame with its length in steps and in µs

@@ -3,7 +3,7 @@ use mathlib.Core.Path.{_≡_}
 use mathlib.Core.Bool.{cond}
 use mathlib.Core.List.{List, [], _∷_, _++_}
 use Prim.Native.Nat.{ℕ}
-use lib.Dec.{eqb, ltb}
+use lib.Dec.{ltb}
 use Rattle.std.specs.declared.option.Option.{Option}
 use Rattle.std.specs.declared.option.Option.the-variants.{Some, None}
 use Rattle.std.specs.declared.result.Result.{Result}
@@ -12,33 +12,36 @@ use Rattle.std.specs.Results.{Cases}
 use Rattle.std.specs.Written.{decimal}
 use Rattle.network.specs.Ranges.{Within}
 use Rattle.network.specs.declared.Frame.{Frame}
+use Rattle.text.specs.Front.{after}
+use Rattle.text.specs.Number.{number}
+use Rattle.text.specs.declared.NumberFault.{NumberFault}
+use Rattle.text.specs.declared.NumberFault.the-variants as fault
 use Rattle.frames.specs.declared.fault.Fault.{Fault}
 use Rattle.frames.specs.declared.fault.Reason.{Reason}
-use Rattle.frames.specs.declared.fault.Reason.the-variants.{KeyExpected, Below, Above, EndExpected}
+use Rattle.frames.specs.declared.fault.Reason.the-variants.{KeyExpected, DigitExpected, LeadingZero, Below, Above, EndExpected}
 use Rattle.frames.specs.declared.key.Key.{Key}
 use Rattle.frames.specs.declared.key.Key.the-variants.{Size, Rate, Grain}
 use Rattle.frames.specs.Keys.{opening, rangeOf}
-use Rattle.frames.specs.Number.{number}
 
 -- f of what was read, or the refusal
 abbrev pub andThen : {A B E : Type 0} → Result A E → (A → Result B E) → Result B E
 andThen (Ok x) f = f x
 andThen (Err e) f = Err e
 
--- what follows the front p of a text, none where the text begins otherwise
-abbrev pub after : List ℕ → List ℕ → Option (List ℕ)
-after [] bs = Some bs
-after (p ∷ ps) [] = None
-after (p ∷ ps) (b ∷ bs) = cond (eqb p b) (after ps bs) None
-
 -- a refusal at key k
 abbrev pub refuse : {A : Type 0} → Key → Reason → Result A Fault
 refuse k why = Err (record { key = k; reason = why })
 
+-- why a line is refused, where no number could be read
+abbrev pub numberReason : NumberFault → Reason
+numberReason fault.DigitExpected = DigitExpected
+numberReason fault.LeadingZero = LeadingZero
+numberReason fault.TooGreat = Above 4294967295
+
 -- what was read, or the refusal at key k for the same reason
-abbrev pub atKey : {A : Type 0} → Key → Result A Reason → Result A Fault
+abbrev pub atKey : {A : Type 0} → Key → Result A NumberFault → Result A Fault
 atKey k (Ok x) = Ok x
-atKey k (Err why) = refuse k why
+atKey k (Err why) = refuse k (numberReason why)
 
 -- the number of key k in the text after its opening, and the text after it; none: the key does not stand there
 abbrev pub numberAfter : Key → Option (List ℕ) → Result (ℕ × List ℕ) Fault

@@ -1,31 +1,24 @@
 -- What a refusal says of its line: the fields before the key at fault are right, and there the line goes wrong.
 use mathlib.Core.Path.{_≡_}
-use mathlib.Core.Bool.{true}
-use mathlib.Core.List.{List, _∷_, _++_}
+use mathlib.Core.List.{List, _++_}
 use mathlib.Core.Logic.{_⊎_}
 use Prim.Native.Nat.{ℕ, _^_, _<_}
 use lib.ListN.{length}
 use Rattle.std.specs.Results.{Cases}
-use Rattle.std.specs.Text.{asciiDigit}
 use Rattle.std.specs.Written.{decimal}
-use Rattle.std.specs.shelf.Lists.{leading}
-use Rattle.std.specs.shelf.Text.{allDigits}
 use Rattle.std.specs.declared.result.Result.{Result}
 use Rattle.network.specs.Ranges.{Within}
 use Rattle.network.specs.declared.Frame.{Frame}
 use Rattle.network.specs.declared.Range.{Range}
+use Rattle.text.specs.Number.{NoDigit, BadNumber}
+use Rattle.text.specs.declared.NumberFault.{NumberFault}
 use Rattle.frames.specs.declared.fault.Fault.{Fault}
 use Rattle.frames.specs.declared.fault.Reason.{Reason}
 use Rattle.frames.specs.declared.fault.Reason.the-variants.{KeyExpected, DigitExpected, LeadingZero, Below, Above, EndExpected}
 use Rattle.frames.specs.declared.key.Key.{Key}
 use Rattle.frames.specs.declared.key.Key.the-variants.{Size, Rate, Grain}
 use Rattle.frames.specs.Keys.{opening, rangeOf}
-use Rattle.frames.specs.Line.{written}
-use Rattle.frames.specs.Number.{valueOf}
-
--- a text that does not begin with a digit
-abbrev pub NoDigit : List ℕ → Type 0
-NoDigit bs = leading asciiDigit bs ≡ 0
+use Rattle.frames.specs.Line.{numberReason, written}
 
 -- a text begins with key k and its number n, of 32 bits, and goes on with rest
 pub record Field (k : Key) (bs : List ℕ) (n : ℕ) (rest : List ℕ) : Type 0 where
@@ -39,20 +32,11 @@ At Size line text = line ≡ text
 At Rate line text = (n : ℕ) × Field Size line n text
 At Grain line text = (n : ℕ) × ((middle : List ℕ) × (Field Size line n middle × ((m : ℕ) × Field Rate middle m text)))
 
--- what is wrong with a text that must begin with a number
-abbrev pub BadNumber : List ℕ → Reason → Type 0
-BadNumber bs DigitExpected = NoDigit bs
-BadNumber bs LeadingZero = (d : ℕ) × ((rest : List ℕ) × ((bs ≡ 48 ∷ (d ∷ rest)) × (asciiDigit d ≡ true)))
-BadNumber bs (Above most) = (ds : List ℕ) × ((rest : List ℕ) × ((bs ≡ ds ++ rest) × ((allDigits ds ≡ true) × ((most ≡ 4294967295) × (most < valueOf ds)))))
-BadNumber bs KeyExpected = ⊥
-BadNumber bs (Below least) = ⊥
-BadNumber bs EndExpected = ⊥
-
 -- the line goes wrong at its key: the key does not stand there, or no good number follows it
 pub record Malformed (line : List ℕ) (e : Fault) : Type 0 where
   pub text : List ℕ
   pub at : At (e .key) line text
-  pub wrong : ((e .reason ≡ KeyExpected) × ((rest : List ℕ) → text ≡ opening (e .key) ++ rest → ⊥)) ⊎ ((rest : List ℕ) × ((text ≡ opening (e .key) ++ rest) × BadNumber rest (e .reason)))
+  pub wrong : ((e .reason ≡ KeyExpected) × ((rest : List ℕ) → text ≡ opening (e .key) ++ rest → ⊥)) ⊎ ((rest : List ℕ) × ((text ≡ opening (e .key) ++ rest) × ((bad : NumberFault) × ((e .reason ≡ numberReason bad) × BadNumber rest bad))))
 
 -- the line has the three fields of a frame and goes on
 pub record Overlong (line : List ℕ) (e : Fault) : Type 0 where

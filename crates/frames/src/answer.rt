@@ -3,16 +3,16 @@ ghost use mathlib.Core.Path.{_≡_};
 ghost use Rattle.std.specs.Of.String.{string-bytes};
 ghost use Rattle.std.specs.Vec.{made};
 ghost use Rattle.frames.specs.Answer.{answer as answerTo, Answered};
-ghost use Rattle.frames.specs.Lines.{lines, LinesOf};
+ghost use Rattle.text.specs.Lines.{lines, LinesOf};
 use crate::fault::Refusal;
 use crate::fault::RefusalDisplay;
-use crate::lines::cut_line;
 use crate::tally::Tally;
 use crate::tally::TallyDisplay;
 use crate::timed::TimedDisplay;
 use crate::timed::time_line;
 use std::alloc::Global;
 use std::fmt;
+use text::cut_line;
 
 // Writes a line for each line of `input`, up to the first that is refused, and answers what was timed.
 fn answer_lines(out: &mut String, input: &[u8]) -> Result<Tally, fmt::Error>

@@ -1,9 +1,12 @@
 // Why a line is refused.
+ghost use mathlib.Core.Path.{_≡_};
 ghost use Rattle.std.specs.declared.option.Option.the-variants.{Some};
+ghost use Rattle.frames.specs.Line.{numberReason};
 ghost use Rattle.frames.specs.Texts.{reasonText, refusalText};
 use crate::key::Key;
 use crate::key::KeyDisplay;
 use std::fmt;
+use text::NumberFault;
 
 #[derive(Clone, Copy)]
 pub enum Reason {
@@ -19,6 +22,19 @@ pub enum Reason {
     Above(u32),
     // The line goes on after its last number.
     EndExpected,
+}
+
+// The reason where no number could be read.
+pub impl From<NumberFault> for Reason as ReasonFromNumberFault {
+    ghost converts = { λ fault reason. reason ≡ numberReason fault };
+
+    fn from(fault: NumberFault) -> Reason {
+        match fault {
+            NumberFault::DigitExpected => Reason::DigitExpected,
+            NumberFault::LeadingZero => Reason::LeadingZero,
+            NumberFault::TooGreat => Reason::Above(u32::MAX),
+        }
+    }
 }
 
 // The first thing that is wrong with a line: at which key, and why.

@@ -1,28 +1,21 @@
 // One line of the input: the frame that it asks about.
 ghost use mathlib.Core.Path.{_≡_};
-ghost use Rattle.std.specs.Options.{mapped};
-ghost use Rattle.frames.specs.Keys.{opening};
-ghost use Rattle.frames.specs.Number.{seen};
-ghost use Rattle.frames.specs.Line.{after, field as readField, form as readForm, inRange, allowed, readLine, ReadsExactly};
+ghost use Rattle.text.specs.Number.{seen};
+ghost use Rattle.frames.specs.Line.{field as readField, form as readForm, inRange, allowed, readLine, ReadsExactly};
 ghost use Rattle.frames.specs.Refused.{Explained};
 use crate::fault::Fault;
 use crate::fault::Reason;
+use crate::fault::ReasonFromNumberFault;
 use crate::key::Key;
-use crate::number::number;
 use network::Frame;
-
-// What follows `key` in `text`, none where the text does not begin with it.
-fn after_key(text: &[u8], key: Key) -> Option<&[u8]>
-    ensures { λ r. ⌜ mapped now r ≡ after (opening key) (now (text .entry)) ⌝ }
-{
-    text.strip_prefix(key.opening())
-}
+use text::after_front;
+use text::number;
 
 // The number of `key` at the front of `text`, and what follows it.
 fn field(text: &[u8], key: Key) -> Result<(u32, &[u8]), Fault>
     ensures { λ r. ⌜ seen r ≡ readField key (now (text .entry)) ⌝ }
 {
-    let Some(rest) = after_key(text, key) else {
+    let Some(rest) = after_front(text, key.opening()) else {
         return Err(Fault {
             key,
             reason: Reason::KeyExpected,
@@ -30,7 +23,10 @@ fn field(text: &[u8], key: Key) -> Result<(u32, &[u8]), Fault>
     };
     match number(rest) {
         Ok(found) => Ok(found),
-        Err(reason) => Err(Fault { key, reason }),
+        Err(fault) => Err(Fault {
+            key,
+            reason: Reason::from(fault),
+        }),
     }
 }
 

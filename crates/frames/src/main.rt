@@ -3,8 +3,6 @@ mod answer;
 mod fault;
 mod key;
 mod line;
-mod lines;
-mod number;
 mod tally;
 mod timed;
 

@@ -1,5 +1,5 @@
 use borrow.Author.Needs.{needs}
-use Rattle.frames.proofs.FirstLine.{lines-are}
+use Rattle.text.proofs.FirstLine.{lines-are}
 use Rattle.frames.proofs.answer.answer.Needs as need
 
 pub returns-in-Break-tally : need.returns-in-Break-tally

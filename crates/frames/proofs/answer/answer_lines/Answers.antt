@@ -6,7 +6,7 @@ use Rattle.std.specs.Of.String.{string-bytes}
 use borrow.Author.Tests.{true-eqb, false-eqb}
 use Rattle.frames.specs.Answer.{timeLine}
 use Rattle.frames.proofs.Turns.{sofar-all, sofar-more, sofar-refused}
-use Rattle.frames.proofs.FirstLine.{after-shorter}
+use Rattle.text.proofs.FirstLine.{after-shorter}
 use Rattle.frames.proofs.answer.answer_lines.Needs as need
 
 pub returns-in-Err : need.returns-in-Err

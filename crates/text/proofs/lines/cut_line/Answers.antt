@@ -5,9 +5,9 @@ use lib.ListN.{getD, length}
 use Rattle.std.proofs.shelf.Sums.{leading-drop-yes, leading-drop-no, leading-drop-all}
 use Rattle.std.proofs.shelf.Ways.{tells}
 use Rattle.std.specs.shelf.Lists.{leading}
-use Rattle.frames.specs.Lines.{noFeed}
-use Rattle.frames.proofs.FirstLine.{cut-here, cut-nowhere}
-use Rattle.frames.proofs.lines.cut_line.Needs as need
+use Rattle.text.specs.Lines.{noFeed}
+use Rattle.text.proofs.FirstLine.{cut-here, cut-nowhere}
+use Rattle.text.proofs.lines.cut_line.Needs as need
 
 pub returns-then-byte-eq10 : need.returns-then-byte-eq10
 returns-then-byte-eq10 c =

@@ -11,7 +11,7 @@ use lib.ListN.{length, take, drop, length-drop}
 use Rattle.std.proofs.shelf.Lists.{take-all, take-rest, drop-all}
 use Rattle.std.specs.shelf.Lists.{leading}
 use Rattle.std.proofs.shelf.Ways.{decides-eqb, not-from-decides}
-use Rattle.frames.specs.Lines.{inFront, lines, noFeed, firstLine, afterLine, LinesOf}
+use Rattle.text.specs.Lines.{inFront, lines, noFeed, firstLine, afterLine, LinesOf}
 
 -- a text that is not empty is its first line and the lines after it
 pub lines-first : (bs : List ℕ) → 0 < length bs → lines bs ≡ firstLine bs ∷ lines (afterLine bs)
@@ -25,7 +25,7 @@ lines-first (b ∷ c ∷ bs) some = go (eqb b 10) (lines-first (c ∷ bs) (omega
   where
     go : (v : Bool) → lines (c ∷ bs) ≡ firstLine (c ∷ bs) ∷ lines (afterLine (c ∷ bs)) → cond v ([] ∷ lines (c ∷ bs)) (inFront b (lines (c ∷ bs))) ≡ take (cond (not v) (1 + leading noFeed (c ∷ bs)) 0) (b ∷ c ∷ bs) ∷ lines (drop (suc (cond (not v) (1 + leading noFeed (c ∷ bs)) 0)) (b ∷ c ∷ bs))
     go true more = refl
-    go false more = rw one-add (ap (inFront b) more)
+    go false more = rw (one-add (leading noFeed (c ∷ bs))) (ap (inFront b) more)
 
 pub after-shorter : (bs : List ℕ) → 0 < length bs → length (afterLine bs) < length bs
 after-shorter bs some = omega (arith, length-drop (suc (leading noFeed bs)) bs)

@@ -2,8 +2,8 @@ use mathlib.Core.Path.{_≡_}
 use Prim.Native.Nat.{_+_}
 use lib.ListN.{drop}
 use Rattle.std.specs.shelf.Lists.{leading}
-use Rattle.frames.specs.Lines.{noFeed}
-use Rattle.frames.proofs.lines.cut_line.Given as given
+use Rattle.text.specs.Lines.{noFeed}
+use Rattle.text.proofs.lines.cut_line.Given as given
 
 -- no line feed so far
 abbrev pub Inv-loop-i : given.InvT-loop-i

@@ -3,7 +3,7 @@ use Prim.Native.Nat.{_+_}
 use lib.ListN.{drop}
 use Rattle.std.specs.Text.{asciiDigit}
 use Rattle.std.specs.shelf.Lists.{leading}
-use Rattle.frames.proofs.number.digit_count.Given as given
+use Rattle.text.proofs.numbers.digit_count.Given as given
 
 -- all bytes so far are digits
 abbrev pub Inv-loop-i : given.InvT-loop-i

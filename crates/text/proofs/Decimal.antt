@@ -21,10 +21,9 @@ use Rattle.std.specs.shelf.Text.{allDigits}
 use Rattle.std.specs.declared.option.Option.the-variants.{Some, None}
 use Rattle.std.specs.declared.result.Result.{Result}
 use Rattle.std.specs.declared.result.Result.the-variants.{Ok, Err}
-use Rattle.frames.specs.declared.fault.Reason.{Reason}
-use Rattle.frames.specs.declared.fault.Reason.the-variants.{DigitExpected, LeadingZero, Above}
-use Rattle.frames.specs.Refused.{BadNumber}
-use Rattle.frames.specs.Number.{valueAfter, valueOf, small, wholeNumber, before, number}
+use Rattle.text.specs.declared.numbers.NumberFault.{NumberFault}
+use Rattle.text.specs.declared.numbers.NumberFault.the-variants.{DigitExpected, LeadingZero, TooGreat}
+use Rattle.text.specs.Number.{valueAfter, valueOf, small, wholeNumber, before, number, NoDigit, Read, BadNumber, ReadsNumber}
 
 own : Numerals (λ ds. allDigits ds ≡ true) valueOf
 own = numerals-by-fold _ (search needs) valueAfter (search needs)
@@ -56,8 +55,8 @@ leading-all (d ∷ ds) rest all stop = go (asciiDigit d) all (leading-all ds res
     go false all more = cc
 
 -- what an accepted number says of the length of its digits, the first digit and their value
-abbrev whole : ℕ → ℕ → ℕ → Result ℕ Reason
-whole l first v = cond (eqb l 0) (Err DigitExpected) (cond (eqb first 48 && ltb 1 l) (Err LeadingZero) (okOr (small v) (Above 4294967295)))
+abbrev whole : ℕ → ℕ → ℕ → Result ℕ NumberFault
+whole l first v = cond (eqb l 0) (Err DigitExpected) (cond (eqb first 48 && ltb 1 l) (Err LeadingZero) (okOr (small v) TooGreat))
 
 record Accepted (l first v n : ℕ) : Type 0 where
   some : 0 < l
@@ -92,12 +91,6 @@ before-ok {A} rest (Ok y) x after is =
     (ap (λ p. Ok (p .0)) pair, ap (λ p. p .1) pair)
 before-ok rest (Err e) x after is = (cc, cc)
 
--- what an accepted number says of its text
-pub record Read (bs rest : List ℕ) (n : ℕ) : Type 0 where
-  pub text : bs ≡ decimal n ++ rest
-  pub stops : leading asciiDigit rest ≡ 0
-  pub fits : n < 2 ^ 32
-
 pub number-ok : (bs rest : List ℕ) (n : ℕ) → number bs ≡ Ok (n, rest) → Read bs rest n
 unfolding number
 number-ok bs rest n is =
@@ -112,7 +105,7 @@ number-ok bs rest n is =
       fits = omega (arith, h .value, h .fits);
     }
 
-pub number-back : (n : ℕ) (rest : List ℕ) → n < 2 ^ 32 → leading asciiDigit rest ≡ 0 → number (decimal n ++ rest) ≡ Ok (n, rest)
+pub number-back : (n : ℕ) (rest : List ℕ) → n < 2 ^ 32 → NoDigit rest → number (decimal n ++ rest) ≡ Ok (n, rest)
 unfolding number
 number-back n rest fits stop =
     let k = leading-all (decimal n) rest (digits-decimal own n (omega arith)) stop in
@@ -125,15 +118,15 @@ before-err rest (Ok y) e is = cc
 before-err rest (Err d) e is = cc
 
 -- why no number is read
-data Refusal (l first v : ℕ) (why : Reason) : Type 0 where
+data Refusal (l first v : ℕ) (why : NumberFault) : Type 0 where
   none : why ≡ DigitExpected → l ≡ 0 → Refusal l first v why
   zeros : why ≡ LeadingZero → first ≡ 48 → 1 < l → Refusal l first v why
-  great : why ≡ Above 4294967295 → 4294967295 < v → Refusal l first v why
+  great : why ≡ TooGreat → 4294967295 < v → Refusal l first v why
 
-refusal : (l first v : ℕ) (why : Reason) → whole l first v ≡ Err why → Refusal l first v why
+refusal : (l first v : ℕ) (why : NumberFault) → whole l first v ≡ Err why → Refusal l first v why
 refusal l first v why is = go (eqb l 0) refl (eqb first 48 && ltb 1 l) refl (ltb v (2 ^ 32)) refl is
   where
-    go : (a : Bool) → eqb l 0 ≡ a → (b : Bool) → (eqb first 48 && ltb 1 l) ≡ b → (d : Bool) → ltb v (2 ^ 32) ≡ d → cond a (Err DigitExpected) (cond b (Err LeadingZero) (okOr (cond d (Some v) None) (Above 4294967295))) ≡ Err why → Refusal l first v why
+    go : (a : Bool) → eqb l 0 ≡ a → (b : Bool) → (eqb first 48 && ltb 1 l) ≡ b → (d : Bool) → ltb v (2 ^ 32) ≡ d → cond a (Err DigitExpected) (cond b (Err LeadingZero) (okOr (cond d (Some v) None) TooGreat)) ≡ Err why → Refusal l first v why
     go true ea b eb d ed is = none (cc) (grind (arith, tells))
     go false ea true eb d ed is = zeros (cc) (grind (arith, tells)) (grind (arith, tells))
     go false ea false eb true ed is = absurd (let z : _≡_ {A = ℕ} 0 1 = cc in omega arith)
@@ -149,14 +142,14 @@ two-digits (a ∷ b ∷ ds) all first more = (b, (ds, (ap (λ x. x ∷ (b ∷ ds
     second true false all = cc
     second false v all = cc
 
-explained : (bs ds rest : List ℕ) (why : Reason) → bs ≡ ds ++ rest → allDigits ds ≡ true → leading asciiDigit bs ≡ length ds → Refusal (length ds) (getD ds 0 0) (valueOf ds) why → BadNumber bs why
+explained : (bs ds rest : List ℕ) (why : NumberFault) → bs ≡ ds ++ rest → allDigits ds ≡ true → leading asciiDigit bs ≡ length ds → Refusal (length ds) (getD ds 0 0) (valueOf ds) why → BadNumber bs why
 explained bs ds rest why whole all front (none e empty) = subst (BadNumber bs) (sym e) (front ∙ empty)
 explained bs ds rest why whole all front (zeros e first more) =
     let two = two-digits ds all first more in
     subst (BadNumber bs) (sym e) (two .0, (two .1 .0 ++ rest, (whole ∙ ap (λ l. l ++ rest) (two .1 .1 .0), two .1 .1 .1)))
-explained bs ds rest why whole all front (great e over) = subst (BadNumber bs) (sym e) (ds, (rest, (whole, (all, (refl, over)))))
+explained bs ds rest why whole all front (great e over) = subst (BadNumber bs) (sym e) (ds, (rest, (whole, (all, over))))
 
-pub number-err : (bs : List ℕ) (why : Reason) → number bs ≡ Err why → BadNumber bs why
+pub number-err : (bs : List ℕ) (why : NumberFault) → number bs ≡ Err why → BadNumber bs why
 unfolding number
 number-err bs why is =
     let k = leading asciiDigit bs in
@@ -165,3 +158,7 @@ number-err bs why is =
     let front = sym (length-take-le k bs (leading-le-length asciiDigit bs)) in
     explained bs ds rest why (sym (take-append-drop k bs)) (leading-digits bs) front
     (refusal (length ds) (getD ds 0 0) (valueOf ds) why (before-err rest (wholeNumber ds) why is))
+
+pub reads-number : (bs : List ℕ) (r : Result (ℕ × List ℕ) NumberFault) → r ≡ number bs → ReadsNumber bs r
+reads-number bs (Ok x) is = number-ok bs (x .1) (x .0) (sym is)
+reads-number bs (Err why) is = number-err bs why (sym is)

@@ -2,7 +2,7 @@ use mathlib.Core.Path.{sym}
 use native.Mathlib.Omega.{arith}
 use Rattle.std.specs.Text.{asciiDigit}
 use Rattle.std.proofs.shelf.Sums.{leading-drop-yes, leading-drop-no, leading-drop-all}
-use Rattle.frames.proofs.number.digit_count.Needs as need
+use Rattle.text.proofs.numbers.digit_count.Needs as need
 
 pub returns-then-not-is-ascii-digit : need.returns-then-not-is-ascii-digit
 returns-then-not-is-ascii-digit c =

@@ -1,8 +1,8 @@
 use mathlib.Core.Path.{_≡_}
 use Prim.Native.Nat.{_<_, _^_}
 use lib.ListN.{drop}
-use Rattle.frames.specs.Number.{valueOf, valueAfter}
-use Rattle.frames.proofs.number.value.Given as given
+use Rattle.text.specs.Number.{valueOf, valueAfter}
+use Rattle.text.proofs.numbers.value.Given as given
 
 -- the digits that are left lead from the value so far, of 32 bits, to that of all digits
 abbrev pub Inv-loop-digit : given.InvT-loop-digit

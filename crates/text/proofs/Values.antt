@@ -7,7 +7,7 @@ use lib.ListN.{length, getD, drop}
 use Rattle.std.proofs.shelf.Lists.{at-drop-more, at-drop-all}
 use Rattle.std.proofs.shelf.Ways.{tells}
 use Rattle.std.specs.declared.option.Option.the-variants.{Some, None}
-use Rattle.frames.specs.Number.{valueAfter, small}
+use Rattle.text.specs.Number.{valueAfter, small}
 
 -- a value only grows
 grows : (n : ℕ) (ds : List ℕ) → n ≤ valueAfter n ds

@@ -2,8 +2,8 @@ use mathlib.Core.Path.{_≡_, _∙_}
 use Prim.Native.Nat.{_+_, _-_, _*_}
 use native.Mathlib.Omega.{arith}
 use lib.ListN.{getD}
-use Rattle.frames.proofs.Values.{value-more, value-all, too-great}
-use Rattle.frames.proofs.number.value.Needs as need
+use Rattle.text.proofs.Values.{value-more, value-all, too-great}
+use Rattle.text.proofs.numbers.value.Needs as need
 
 pub returns-in-Break-checked-mul : need.returns-in-Break-checked-mul
 returns-in-Break-checked-mul c =

@@ -10,7 +10,7 @@ use Rattle.std.specs.Options.{Cases, mapped}
 use Rattle.std.proofs.shelf.Ways.{decides-eqb}
 use Rattle.std.specs.declared.option.Option.{Option}
 use Rattle.std.specs.declared.option.Option.the-variants.{Some, None}
-use Rattle.frames.specs.Line.{after}
+use Rattle.text.specs.Front.{after}
 
 pub after-front : (p rest : List ℕ) → after p (p ++ rest) ≡ Some rest
 after-front [] rest = refl

@@ -1,0 +1,4 @@
+pub mod Values
+pub mod Fronts
+pub mod Decimal
+pub mod FirstLine
