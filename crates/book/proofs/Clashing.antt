@@ -139,3 +139,11 @@ clash-exactly m n w r sound is = record { refused = λ i k clash. back i k (unfi
     there : unfit n w m ≡ Ok tt → (k : ℕ) → WouldMeet m w k → (o : Option ℕ) → firstMet m w ≡ o → (j : ℕ) × (r ≡ Err (Clash n j))
     there fits k would None none = absurd (met-none sound (fit m n w fits .proper .suits) none k would)
     there fits k would (Some j) some = (j, is ∙ (λ i. andOther (fits i) (unmet n (some i))))
+
+-- an accepted window fits
+pub book-fits : (m : Meaning) (n : ℕ) (w : Window) → bookAnswer n w m ≡ Ok tt → unfit n w m ≡ Ok tt
+book-fits m n w is = go (unfit n w m) refl is
+  where
+    go : (u : Result (Unit {0}) BookFault) → unfit n w m ≡ u → andOther u (unmet n (firstMet m w)) ≡ Ok tt → unfit n w m ≡ Ok tt
+    go (Ok x) fits is = fits
+    go (Err e) early is = early ∙ is
