@@ -1,5 +1,5 @@
 -- A window is refused as a clash exactly when it would meet another.
-use mathlib.Core.Bool.{Bool, true, false, cond, _&&_}
+use mathlib.Core.Bool.{Bool, true, false, cond, not, _&&_}
 use mathlib.Core.Path.{_≡_, refl, sym, ap, subst, _∙_}
 use Prim.Native.Nat.{ℕ, suc, _+_, _≤_, _<_}
 use native.Mathlib.Omega.{arith}
@@ -43,7 +43,7 @@ pub record Fit (m : Meaning) (n : ℕ) (w : Window) : Type 0 where
 
 -- the tests before a clash, from their values
 abbrev tests : Bool → Bool → Option Window → ℕ → ℕ → Result (Unit {0}) BookFault
-tests there good o n rest = cond there (cond good (cond (isSome o) (Err (Standing n)) (Ok tt)) (Err (BadForm n rest))) (Err Absent)
+tests there good o n rest = cond (not there) (Err Absent) (cond (not good) (Err (BadForm n rest)) (cond (isSome o) (Err (Standing n)) (Ok tt)))
 
 pub fit : (m : Meaning) (n : ℕ) (w : Window) → unfit n w m ≡ Ok tt → Fit m n w
 unfolding unfit
@@ -69,7 +69,7 @@ unfit-no-clash m n w i k is = go (numbered n && present m (w .link)) (wellFormed
     go false b o is = let z : _≡_ {A = ℕ} 0 1 = cc in omega arith
 
 -- a number that a window may have
-number-range : (k : ℕ) → numbered k ≡ true → (1 ≤ k) × (k ≤ 256)
+pub number-range : (k : ℕ) → numbered k ≡ true → (1 ≤ k) × (k ≤ 256)
 number-range k is = (grind (arith, tells), grind (arith, tells))
 
 module _ {m : Meaning} (sound : Sound m) {w : Window} (suits : Suits m w) where

@@ -3,3 +3,4 @@ pub mod Unbounded
 pub mod Lowest
 pub mod Clashing
 pub mod Keeping
+pub mod Holders

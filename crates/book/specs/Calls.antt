@@ -1,5 +1,5 @@
 -- What each call of a book answers, and what the book means after it.
-use mathlib.Core.Bool.{Bool, false, cond, _&&_}
+use mathlib.Core.Bool.{Bool, false, cond, not, _&&_}
 use Prim.Native.Nat.{ℕ}
 use lib.Dec.{eqb}
 use Rattle.std.specs.Options.{isSome}
@@ -28,11 +28,9 @@ firstMet m w = lowest (λ k. meetsStanding m w (m .windows k)) 1 256
 -- why a window cannot stand under number n, whatever the other windows are
 unfoldable pub unfit : ℕ → Window → Meaning → Result (Unit {0}) BookFault
 unfit n w m =
-    cond (numbered n && present m (w .link))
-    (cond (wellFormed (m .cycle (w .link)) (m .rest (w .link)) w)
-    (cond (isSome (m .windows n)) (Err (Standing n)) (Ok tt))
-    (Err (BadForm n (m .rest (w .link)))))
-    (Err Absent)
+    cond (not (numbered n && present m (w .link))) (Err Absent)
+    (cond (not (wellFormed (m .cycle (w .link)) (m .rest (w .link)) w)) (Err (BadForm n (m .rest (w .link))))
+    (cond (isSome (m .windows n)) (Err (Standing n)) (Ok tt)))
 
 -- a clash of window n with the number that it meets, if any
 abbrev pub unmet : ℕ → Option ℕ → Result (Unit {0}) BookFault
@@ -58,7 +56,7 @@ standing n (Some w) = Ok w
 
 -- lift: the window that is gone now
 abbrev pub liftAnswer : ℕ → Meaning → Result Window BookFault
-liftAnswer n m = cond (numbered n) (standing n (m .windows n)) (Err Absent)
+liftAnswer n m = cond (not (numbered n)) (Err Absent) (standing n (m .windows n))
 
 abbrev pub liftAfter : ℕ → Meaning → Meaning
 liftAfter n m = changed (liftAnswer n m) (with n None m) m

@@ -2,6 +2,7 @@
 use mathlib.Core.Bool.{true}
 use mathlib.Core.Path.{_≡_}
 use Prim.Native.Nat.{ℕ, _≤_, _<_}
+use Rattle.std.specs.declared.option.Option.{Option}
 use Rattle.std.specs.declared.option.Option.the-variants.{Some}
 use Rattle.std.specs.declared.result.Result.{Result}
 use Rattle.std.specs.declared.result.Result.the-variants.{Ok, Err}
@@ -54,3 +55,11 @@ pub record Clashes (m : Meaning) (n : ℕ) (w : Window) (k : ℕ) : Type 0 where
 pub record ClashExactly (m : Meaning) (n : ℕ) (w : Window) (r : Result (Unit {0}) BookFault) : Type 0 where
   pub refused : (i k : ℕ) → r ≡ Err (Clash i k) → (i ≡ n) × Clashes m n w k
   pub refuses : unfit n w m ≡ Ok tt → (k : ℕ) → WouldMeet m w k → (j : ℕ) × (r ≡ Err (Clash n j))
+
+-- the window of number k is one of link l and holds step s
+abbrev pub HoldsAt : Meaning → ℕ → ℕ → ℕ → Type 0
+HoldsAt m l s k = (w : Window) × (Stands m k w × ((w .link ≡ l) × Holds w (m .rest l) s))
+
+-- a number is answered exactly when its window holds the step
+abbrev pub HeldExactly : Meaning → ℕ → ℕ → Option ℕ → Type 0
+HeldExactly m l s r = (k : ℕ) → (r ≡ Some k → HoldsAt m l s k) × (HoldsAt m l s k → r ≡ Some k)

@@ -3,7 +3,7 @@ ghost use denote.Ref.{now};
 ghost use mathlib.Core.Path.{_≡_};
 ghost use Rattle.book.specs.Meaning.{Meaning};
 ghost use Rattle.book.specs.Calls.{bookAnswer, bookAfter, liftAnswer, liftAfter, findAnswer, heldAnswer, spanAnswer};
-ghost use Rattle.book.specs.Sound.{Sound, ClashExactly};
+ghost use Rattle.book.specs.Sound.{Sound, ClashExactly, HeldExactly};
 ghost use Rattle.book.specs.Steps.{Steps};
 use crate::fault::BookFault;
 use crate::window::Window;
@@ -34,7 +34,8 @@ pub trait Book {
 
     // The lowest number whose window holds the step of the link.
     fn held(&self, link: u32, step: u64) -> Option<u32>
-        ensures { λ r. ⌜ (keeps (now (self .entry)) → r ≡ heldAnswer link step (meaning (now (self .entry)))) ⌝ };
+        ensures answer { λ r. ⌜ (keeps (now (self .entry)) → r ≡ heldAnswer link step (meaning (now (self .entry)))) ⌝ }
+        ensures exact { λ r. ⌜ (keeps (now (self .entry)) → HeldExactly (meaning (now (self .entry))) link step r) ⌝ };
 
     // The cycle and the rest of the link, 0 and 0 where there is no such link.
     fn span(&self, link: u32) -> (u32, u32)

@@ -1,5 +1,5 @@
 -- What becomes of a ledger.
-use mathlib.Core.Bool.{Bool, true, false, cond, _&&_}
+use mathlib.Core.Bool.{Bool, true, false, cond, not, _&&_}
 use mathlib.Core.Path.{_≡_, refl, sym, ap, subst, _∙_}
 use Prim.Native.Nat.{ℕ, _≤_, _<_}
 use native.Mathlib.Omega.{arith}
@@ -26,17 +26,18 @@ use Rattle.bottom.specs.declared.table.Table.{Table}
 use Rattle.bottom.specs.Ledger.{cycleOf, noRest, meaningOf, Kept, canMake, ground}
 use Rattle.bottom.specs.Table.{windowsOf}
 
+-- a book that can be made is sound without windows
+pub ground-sound : (links cycle : ℕ) → canMake links cycle ≡ Ok tt → Sound (ground links cycle)
+ground-sound links cycle can =
+    let short : cycle ≤ 1000000 = grind (arith, tells) in
+    empty-sound (cycleOf links cycle) noRest (λ l. grind (arith, tells)) (λ l. omega arith)
+
 module _ (links cycle : ℕ) (t : Table) (none : windowsOf t ≡ (λ _. None)) where
   pub made-means : meaningOf (record { links = links; cycle = cycle; table = t }) ≡ ground links cycle
   made-means = λ i. record { windows = none i; cycle = cycleOf links cycle; rest = noRest }
 
   pub made-kept : canMake links cycle ≡ Ok tt → Kept (record { links = links; cycle = cycle; table = t })
-  made-kept can =
-      let short : cycle ≤ 1000000 = grind (arith, tells) in
-      record {
-        links = grind (arith, tells);
-        sound = subst Sound (sym made-means) (empty-sound (cycleOf links cycle) noRest (λ l. grind (arith, tells)) (λ l. omega arith));
-      }
+  made-kept can = record { links = grind (arith, tells); sound = subst Sound (sym made-means) (ground-sound links cycle can) }
 
 pub kept-as : (l l′ : Ledger) (m : Meaning) → Kept l → l′ .links ≡ l .links → meaningOf l′ ≡ m → Sound m → Kept l′
 kept-as l l′ m kept links is sound = record { links = omega (arith, kept .links); sound = subst Sound (sym is) sound }
@@ -45,13 +46,13 @@ kept-as l l′ m kept links is sound = record { links = omega (arith, kept .link
 pub lifted : (l l′ : Ledger) (n : ℕ) (w : Window) → numbered n ≡ true → meaningOf l .windows n ≡ Some w → meaningOf l′ ≡ with n None (meaningOf l) → l′ .links ≡ l .links → Kept l → Did (Ok w) (liftAnswer n (meaningOf l)) (meaningOf l′) (liftAfter n (meaningOf l)) (Kept l′)
 lifted l l′ n w number stands is links kept =
     let m = meaningOf l in
-    let answer : liftAnswer n m ≡ Ok w = λ i. cond (number i) (standing n (stands i)) (Err Absent) in
+    let answer : liftAnswer n m ≡ Ok w = λ i. cond (not (number i)) (Err Absent) (standing n (stands i)) in
     let after : meaningOf l′ ≡ liftAfter n m = is ∙ sym (ap (λ r. changed r (with n None m) m) answer) in
     record { answer = sym answer; after = after; kept = kept-as l l′ (liftAfter n m) kept links after (lift-sound m n (kept .sound)) }
 
 -- the tests before a clash, from their values
 abbrev pub tests : Bool → Bool → Bool → ℕ → ℕ → Result (Unit {0}) BookFault
-tests there good taken n rest = cond there (cond good (cond taken (Err (Standing n)) (Ok tt)) (Err (BadForm n rest))) (Err Absent)
+tests there good taken n rest = cond (not there) (Err Absent) (cond (not good) (Err (BadForm n rest)) (cond taken (Err (Standing n)) (Ok tt)))
 
 -- they go by the span of the window's link
 pub unfit-is : (m : Meaning) (n : ℕ) (w : Window) (span : ℕ × ℕ) (there good taken : Bool) → span ≡ spanAnswer (w .link) m → (numbered n && ltb 0 (span .0)) ≡ there → wellFormed (span .0) (span .1) w ≡ good → isSome (m .windows n) ≡ taken → tests there good taken n (span .1) ≡ unfit n w m

@@ -1,7 +1,7 @@
 // The book that decides by arithmetic on the periods of its windows.
 ghost use mathlib.Core.Path.{_≡_};
 ghost use Rattle.std.specs.declared.result.Result.the-variants.{Ok};
-ghost use Rattle.book.specs.Calls.{meetsStanding, firstMet, holdsStanding, bookAnswer};
+ghost use Rattle.book.specs.Calls.{meetsStanding, firstMet, holdsStanding, heldAnswer, bookAnswer};
 ghost use Rattle.book.specs.Sound.{Suits};
 ghost use Rattle.bottom.specs.Ledger.{meaningOf, Kept, canMake, ground};
 use crate::ledger::Ledger;
@@ -82,6 +82,21 @@ impl FormulaBook {
             Some(window) => window.link == link && window.holds(0, step),
         }
     }
+
+    // The lowest number whose window holds the step of the link.
+    fn holder(&self, link: u32, step: u64) -> Option<u32>
+        ensures { λ r. ⌜ r ≡ heldAnswer link step (meaningOf (now (self .entry) .ledger)) ⌝ }
+    {
+        if !is_link(link) {
+            return None;
+        }
+        for number in 1..=LAST {
+            if self.holds_standing(number, link, step) {
+                return Some(number);
+            }
+        }
+        None
+    }
 }
 
 pub impl Book for FormulaBook as FormulaBookBook {
@@ -104,15 +119,7 @@ pub impl Book for FormulaBook as FormulaBookBook {
     }
 
     fn held(&self, link: u32, step: u64) -> Option<u32> {
-        if !is_link(link) {
-            return None;
-        }
-        for number in 1..=LAST {
-            if self.holds_standing(number, link, step) {
-                return Some(number);
-            }
-        }
-        None
+        self.holder(link, step)
     }
 
     fn span(&self, link: u32) -> (u32, u32) {

@@ -3,7 +3,7 @@ use Prim.Native.Nat.{_-_}
 use Rattle.book.specs.Calls.{holdsStanding}
 use Rattle.book.specs.Lowest.{lowest}
 use Rattle.bottom.specs.Ledger.{meaningOf}
-use Rattle.bottom.proofs.formula.FormulaBookBook.held.Given as given
+use Rattle.bottom.proofs.formula.FormulaBook.holder.Given as given
 
 -- none of the numbers so far has a window that holds the step
 abbrev pub Inv-loop-number : given.InvT-loop-number

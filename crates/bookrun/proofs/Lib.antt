@@ -1,0 +1,4 @@
+pub mod Replying
+pub mod Turns
+pub mod Beginnings
+pub mod Lawful
