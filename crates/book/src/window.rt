@@ -49,3 +49,53 @@ impl Window {
             && end <= u64::from(self.period)
     }
 }
+
+#[cfg(test)]
+mod tests {
+    use super::*;
+    use std::test::*;
+
+    fn window(start: u32, length: u32, period: u32) -> Window {
+        Window {
+            link: 1,
+            start,
+            length,
+            period,
+        }
+    }
+
+    // Steps 3 and 4 of every ten, and with a rest of 2 also 5 and 6.
+    #[test]
+    fn held_steps() -> Result<(), Fail> {
+        let pair = window(3, 2, 10);
+        check_eq(pair.holds(0, 2), false)?;
+        check_eq(pair.holds(0, 3), true)?;
+        check_eq(pair.holds(0, 4), true)?;
+        check_eq(pair.holds(0, 5), false)?;
+        check_eq(pair.holds(2, 6), true)?;
+        check_eq(pair.holds(2, 7), false)?;
+        check_eq(pair.holds(0, 10_000_000_003), true)?;
+        check_eq(pair.holds(0, 10_000_000_005), false)?;
+        check_eq(pair.holds(0, u64::MAX), false)
+    }
+
+    #[test]
+    fn once_only() -> Result<(), Fail> {
+        check_eq(window(3, 2, 0).holds(0, 4), true)?;
+        check_eq(window(3, 2, 0).holds(0, 13), false)?;
+        check_eq(window(3, 0, 1).holds(0, 3), false)
+    }
+
+    #[test]
+    fn forms() -> Result<(), Fail> {
+        let most = u32::MAX;
+        check_eq(window(0, 1, 4).is_well_formed(24, 0), true)?;
+        check_eq(window(3, 1, 4).is_well_formed(24, 0), true)?;
+        check_eq(window(3, 1, 4).is_well_formed(24, 1), false)?;
+        check_eq(window(0, 0, 4).is_well_formed(24, 0), false)?;
+        check_eq(window(0, 1, 0).is_well_formed(24, 0), false)?;
+        check_eq(window(0, 1, 5).is_well_formed(24, 0), false)?;
+        check_eq(window(most, most, most).is_well_formed(most, most), false)?;
+        check_eq(window(0, most, most).is_well_formed(most, 0), true)
+    }
+}

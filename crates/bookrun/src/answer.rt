@@ -13,10 +13,8 @@ ghost use Rattle.bookrun.specs.Openings.{groundOf};
 ghost use Rattle.bookrun.specs.Printed.{answer as answerTo, counted as countedIn, isRefusal, noTally};
 ghost use Rattle.bookrun.specs.Runs.{Small, Began, Ran};
 ghost use Rattle.bookrun.specs.Scripts.{SoundThroughout};
-use script::read_line;
 use crate::opening::Opening;
 use crate::opening::open;
-use script::Pile;
 use crate::perform::respond;
 use crate::reply::Answered;
 use crate::reply::AnsweredDisplay;
@@ -26,6 +24,8 @@ use crate::tally::TallyDisplay;
 use book::Book;
 use bottom::FormulaBook;
 use bottom::FormulaBookBook;
+use script::Pile;
+use script::read_line;
 use std::alloc::Global;
 use std::fmt;
 use text::cut_line;
@@ -75,7 +75,10 @@ fn counted(tally: Tally, reply: Option<Reply>, number: u64) -> Tally
 }
 
 // Answers the lines of a script until there is a book, and says which.
-fn begin<'a>(out: &mut String, script: &'a [u8]) -> Result<(Option<Opening>, Progress<'a>), fmt::Error>
+fn begin<'a>(
+    out: &mut String,
+    script: &'a [u8],
+) -> Result<(Option<Opening>, Progress<'a>), fmt::Error>
     ensures { λ r. ⌜ made r (λ o. Began (now (script .entry)) (string-bytes (now (out .entry))) (string-bytes (now (out .exit))) (o .0) (now (o .1 .rest)) (o .1 .lines) (o .1 .tally)) ⌝ }
 {
     let mut tally = Tally {
@@ -98,16 +101,10 @@ fn begin<'a>(out: &mut String, script: &'a [u8]) -> Result<(Option<Opening>, Pro
         lines += 1;
         rest = after;
         if opening.is_some() {
-            return Ok((
-                opening,
-                Progress { rest, lines, tally },
-            ));
+            return Ok((opening, Progress { rest, lines, tally }));
         }
     }
-    Ok((
-        None,
-        Progress { rest, lines, tally },
-    ))
+    Ok((None, Progress { rest, lines, tally }))
 }
 
 // Answers the lines that are left by calls on the book, and counts all replies.

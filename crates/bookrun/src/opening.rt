@@ -5,11 +5,11 @@ ghost use Rattle.std.specs.declared.result.Result.the-variants.{Ok};
 ghost use Rattle.bottom.specs.Ledger.{canMake};
 ghost use Rattle.bookrun.specs.Openings.{groundOf};
 ghost use Rattle.bookrun.specs.Scripts.{openingReply, opened};
-use script::Order;
-use script::Pile;
 use crate::perform::book_reply;
 use crate::reply::Reply;
 use bottom::FormulaBook;
+use script::Order;
+use script::Pile;
 
 // A book that can be made: its pile, the number of its links and their cycle.
 #[derive(Clone, Copy)]

@@ -3,12 +3,12 @@ ghost use mathlib.Core.Path.{_≡_};
 ghost use Rattle.book.specs.Steps.{Steps};
 ghost use Rattle.bookrun.specs.Scripts.{callReply, called};
 ghost use Rattle.bookrun.specs.Performing.{reply as replyOf, after as meaningAfter, bookReply, liftReply, findReply, heldReply};
-use script::Call;
-use script::Order;
 use crate::reply::Reply;
 use book::Book;
 use book::BookFault;
 use book::Window;
+use script::Call;
+use script::Order;
 
 // The reply to book.
 pub fn book_reply(answer: Result<(), BookFault>) -> Reply

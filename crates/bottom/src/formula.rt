@@ -126,3 +126,87 @@ pub impl Book for FormulaBook as FormulaBookBook {
         self.ledger.span(link)
     }
 }
+
+#[cfg(test)]
+mod tests {
+    use super::*;
+    use book::BookFaultDebug;
+    use book::BookFaultPartialEq;
+    use book::WindowDebug;
+    use book::WindowPartialEq;
+    use book::WorkedCase;
+    use book::worked_cases;
+    use std::test::*;
+
+    fn window(link: u32, start: u32, length: u32, period: u32) -> Window {
+        Window {
+            link,
+            start,
+            length,
+            period,
+        }
+    }
+
+    #[test]
+    fn the_worked_cases() -> Result<(), Fail> {
+        for WorkedCase { one, other, first } in worked_cases() {
+            let mut book = FormulaBook::new(1, 12);
+            check_eq(book.book(1, one), Ok(()))?;
+            let clash = Err(BookFault::Clash {
+                window: 2,
+                other: 1,
+            });
+            match first {
+                Some(step) => {
+                    check_eq(book.book(2, other), clash)?;
+                    check_eq(book.held(1, u64::from(step)), Some(1))?;
+                }
+                None => check_eq(book.book(2, other), Ok(()))?,
+            }
+        }
+        Ok(())
+    }
+
+    #[test]
+    fn what_can_be_made() -> Result<(), Fail> {
+        let most = u32::MAX;
+        check_eq(FormulaBook::can_make(0, 1), Ok(()))?;
+        check_eq(FormulaBook::can_make(32, 1_000_000), Ok(()))?;
+        for (links, cycle) in [(33, 1), (1, 0), (1, 1_000_001), (most, most)] {
+            check_eq(FormulaBook::can_make(links, cycle), Err(BookFault::Absent))?;
+        }
+        Ok(())
+    }
+
+    // A window for each step of a cycle of 256, and no room for another.
+    #[test]
+    fn every_number() -> Result<(), Fail> {
+        let mut book = FormulaBook::new(32, 256);
+        for number in 1..=LAST {
+            check_eq(book.book(number, window(32, number - 1, 1, 256)), Ok(()))?;
+        }
+        check_eq(book.held(32, 256_000_000_255), Some(256))?;
+        check_eq(book.lift(200), Ok(window(32, 199, 1, 256)))?;
+        let clash = Err(BookFault::Clash {
+            window: 200,
+            other: 8,
+        });
+        check_eq(book.book(200, window(32, 7, 1, 8)), clash)?;
+        check_eq(book.find(200), None)?;
+        check_eq(book.book(200, window(32, 199, 1, 256)), Ok(()))
+    }
+
+    // Periods whose common divisor is 1 meet, however long the cycle.
+    #[test]
+    fn long_periods() -> Result<(), Fail> {
+        let mut book = FormulaBook::new(1, 1_000_000);
+        check_eq(book.book(1, window(1, 0, 1, 15_625)), Ok(()))?;
+        let clash = Err(BookFault::Clash {
+            window: 2,
+            other: 1,
+        });
+        check_eq(book.book(2, window(1, 63, 1, 64)), clash)?;
+        check_eq(book.book(2, window(1, 4, 1, 15_625)), Ok(()))?;
+        check_eq(book.held(1, 15_624_984_379), Some(2))
+    }
+}
