@@ -1,10 +1,10 @@
 -- A window is refused as a clash exactly when it would meet another.
 use mathlib.Core.Bool.{Bool, true, false, cond, not, _&&_}
 use mathlib.Core.Path.{_≡_, refl, sym, ap, subst, _∙_}
-use Prim.Native.Nat.{ℕ, suc, _+_, _≤_, _<_}
+use Prim.Native.Nat.{ℕ, _≤_, _<_}
 use native.Mathlib.Omega.{arith}
 use lib.Dec.{eqb}
-use Rattle.std.proofs.shelf.Ways.{tells, decides-eqb, decides-and, decides-like, not-from-decides}
+use Rattle.std.proofs.shelf.Ways.{tells, decides-eqb, not-from-decides}
 use Rattle.std.specs.Options.{isSome}
 use Rattle.std.specs.Orderings.{Decides}
 use Rattle.std.specs.Results.{andOther}

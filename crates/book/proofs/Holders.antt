@@ -1,7 +1,7 @@
 -- The number that is answered to held is the one whose window holds the step.
 use mathlib.Core.Bool.{Bool, true, false, cond, _&&_}
 use mathlib.Core.Path.{_≡_, refl, sym, ap, subst, _∙_}
-use Prim.Native.Nat.{ℕ, suc, _+_, _≤_, _<_}
+use Prim.Native.Nat.{ℕ}
 use native.Mathlib.Omega.{arith}
 use lib.Dec.{eqb}
 use Rattle.std.proofs.shelf.Ways.{decides-eqb, not-from-decides}
@@ -10,10 +10,10 @@ use Rattle.std.specs.declared.option.Option.{Option}
 use Rattle.std.specs.declared.option.Option.the-variants.{Some, None}
 use Rattle.book.specs.declared.window.Window.{Window}
 use Rattle.book.specs.Calls.{holdsStanding, heldAnswer}
-use Rattle.book.specs.Holding.{Holds, holds}
+use Rattle.book.specs.Holding.{Holds}
 use Rattle.book.specs.Lowest.{lowest}
-use Rattle.book.specs.Meaning.{Meaning, linked, present}
-use Rattle.book.specs.Sound.{Stands, Sound, HoldsAt, HeldExactly}
+use Rattle.book.specs.Meaning.{Meaning, linked}
+use Rattle.book.specs.Sound.{Sound, HoldsAt, HeldExactly}
 use Rattle.book.proofs.Clashing.{both, number-range}
 use Rattle.book.proofs.Lowest.{Found, nowhere, somewhere, found}
 use Rattle.book.proofs.Unbounded.{holds-decides}

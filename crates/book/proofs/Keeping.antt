@@ -12,10 +12,10 @@ use Rattle.std.specs.declared.result.Result.{Result}
 use Rattle.std.specs.declared.result.Result.the-variants.{Ok, Err}
 use Rattle.book.specs.declared.fault.BookFault.{BookFault}
 use Rattle.book.specs.declared.window.Window.{Window}
-use Rattle.book.specs.Calls.{firstMet, unfit, unmet, bookAnswer, bookAfter, changed, liftAnswer, liftAfter}
+use Rattle.book.specs.Calls.{firstMet, unfit, unmet, bookAfter, changed, liftAnswer, liftAfter}
 use Rattle.book.specs.Holding.{Holds}
 use Rattle.book.specs.Meaning.{Meaning, with, empty}
-use Rattle.book.specs.Sound.{Stands, Proper, Sound, WouldMeet}
+use Rattle.book.specs.Sound.{Stands, Proper, Sound}
 use Rattle.book.proofs.Clashing.{Fit, fit, met-none}
 
 -- a book without windows is sound

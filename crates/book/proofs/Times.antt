@@ -1,8 +1,8 @@
 -- The steps that a window holds, by the time since its start and by cycles.
-use mathlib.Core.Bool.{Bool, true, _&&_}
-use mathlib.Core.Path.{_≡_, sym, ap, subst, _∙_}
+use mathlib.Core.Bool.{_&&_}
+use mathlib.Core.Path.{_≡_, ap, _∙_}
 use Prim.Native.Nat.{ℕ, suc, _+_, _-_, _*_, _/_, _%_, _≤_, _<_}
-use native.Mathlib.Nat.{add-mul, suc-mul, mul-assoc, mul-add-mod-self-right, mod-le, mod-lt, div-add-mod', lt-of-mul-lt-mul-right}
+use native.Mathlib.Nat.{add-mul, suc-mul, mul-assoc, mul-add-mod-self-right, mod-le, div-add-mod', lt-of-mul-lt-mul-right}
 use native.Mathlib.Omega.{arith}
 use lib.Dec.{leb, ltb}
 use Rattle.std.proofs.shelf.Ways.{tells}

@@ -1,7 +1,6 @@
 -- A search through one cycle finds a meeting exactly when there is one in unbounded time.
-use mathlib.Core.Bool.{_&&_}
-use mathlib.Core.Path.{_≡_, subst}
-use Prim.Native.Nat.{ℕ, _+_, _*_, _/_, _%_, _≤_, _<_}
+use mathlib.Core.Path.{subst}
+use Prim.Native.Nat.{ℕ, _+_, _*_, _/_, _%_, _<_}
 use native.Mathlib.Nat.{mod-lt}
 use native.Mathlib.Omega.{arith}
 use Rattle.std.proofs.shelf.Ways.{decides-and, decides-like}

@@ -1,6 +1,5 @@
 -- The worked cases.
 use mathlib.Core.List.{List, [], _∷_}
-use mathlib.Core.Path.{_≡_}
 use Prim.Native.Nat.{ℕ, _<_}
 use Rattle.std.specs.Options.{Cases}
 use Rattle.std.specs.declared.option.Option.the-variants.{Some, None}

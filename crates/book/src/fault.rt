@@ -17,7 +17,7 @@ pub enum BookFault {
 }
 
 // A refusal as it is reported: the number of its cause and two values.
-#[derive(Clone, Copy, Debug, PartialEq, Eq)]
+#[derive(Clone, Copy)]
 pub struct Cause {
     pub number: u32,
     pub a: u32,

@@ -2,7 +2,7 @@
 use mathlib.Core.Bool.{Bool, true, false, cond}
 use mathlib.Core.List.{List, [], _∷_, _++_, append-assoc, append-nil}
 use mathlib.Core.Path.{_≡_, refl, sym, ap, _∙_}
-use Prim.Native.Nat.{ℕ, suc, _+_, _≤_, _<_}
+use Prim.Native.Nat.{ℕ, suc, _+_, _<_}
 use native.Mathlib.Nat.{add-zero}
 use native.Mathlib.Omega.{arith}
 use lib.ListN.{length}
@@ -19,7 +19,7 @@ use Rattle.bookrun.specs.declared.tally.Tally.{Tally}
 use Rattle.bookrun.specs.Printed.{answerLines, line, isRefusal, counted, countedAll}
 use Rattle.script.specs.Reading.{readLine}
 use Rattle.bookrun.specs.Replies.{answerText}
-use Rattle.bookrun.specs.Runs.{Small, Sofar, Bounded, Ran}
+use Rattle.bookrun.specs.Runs.{Small, Written, Sofar, Bounded, Ran}
 use Rattle.bookrun.specs.Scripts.{callReply, called, replyTo, afterOne, replies}
 
 lines-append : (n : ℕ) (rs more : List (Option Reply)) → answerLines n (rs ++ more) ≡ answerLines n rs ++ answerLines (n + length rs) more
@@ -68,8 +68,7 @@ pub record Turn (rest : List ℕ) (n : ℕ) (t : Tally) (new text after : List �
   pub first : text ≡ firstLine rest
   pub later : after ≡ afterLine rest
   pub read : order ≡ readLine text
-  pub counts : t′ ≡ counted r t
-  pub wrote : new′ ≡ new ++ line (answerText (n + 1) r)
+  pub written : Written r t n new new′ t′
 
 module _ {rest : List ℕ} {n : ℕ} {t : Tally} {new text after : List ℕ} {order : Option Order} {r : Option Reply} {t′ : Tally} {new′ : List ℕ} (turn : Turn rest n t new text after order r t′ new′) where
   pub sofar-more : {s₀ s : Option Meaning} {bs : List ℕ} {n₀ : ℕ} {t₀ : Tally} {old : List ℕ} → Sofar s₀ bs n₀ t₀ old s rest n t new → (s′ : Option Meaning) → r ≡ replyTo order s → s′ ≡ afterOne order s → Sofar s₀ bs n₀ t₀ old s′ after (n + 1) t′ new′
@@ -84,14 +83,14 @@ module _ {rest : List ℕ} {n : ℕ} {t : Tally} {new text after : List ℕ} {or
       record {
         done = h .done ++ (r ∷ []);
         all = h .all ∙ ap (λ l. h .done ++ l) here ∙ sym (append-assoc (h .done) (r ∷ []) (replies s′ later));
-        text = turn .wrote ∙ (λ i. h .text i ++ line (answerText (number i) r)) ∙ append-assoc old _ _ ∙ ap (λ l. old ++ l) (sym (lines-append (suc n₀) (h .done) (r ∷ []) ∙ ap (λ l. answerLines (suc n₀) (h .done) ++ l) (append-nil _)));
-        tally = turn .counts ∙ ap (counted r) (h .tally) ∙ sym (counted-append (h .done) (r ∷ []) t₀);
+        text = turn .written .text ∙ (λ i. h .text i ++ line (answerText (number i) r)) ∙ append-assoc old _ _ ∙ ap (λ l. old ++ l) (sym (lines-append (suc n₀) (h .done) (r ∷ []) ∙ ap (λ l. answerLines (suc n₀) (h .done) ++ l) (append-nil _)));
+        tally = turn .written .tally ∙ ap (counted r) (h .tally) ∙ sym (counted-append (h .done) (r ∷ []) t₀);
         count = omega (arith, h .count, length-push (h .done) r);
       }
 
   pub bounded-more : {bs : List ℕ} {n₀ : ℕ} → Bounded bs n₀ rest n t → Bounded bs n₀ after (n + 1) t′
   bounded-more h = record {
-    small = rw (turn .counts) (small-more t n r (h .small));
+    small = rw (turn .written .tally) (small-more t n r (h .small));
     short = omega (arith, h .short, ap length (turn .later), after-shorter rest (turn .some));
   }
 

@@ -14,7 +14,8 @@ use Rattle.bookrun.specs.declared.opening.Opening.{Opening}
 use Rattle.bookrun.specs.declared.reply.Reply.{Reply}
 use Rattle.bookrun.specs.declared.tally.Tally.{Tally}
 use Rattle.bookrun.specs.Openings.{groundOf}
-use Rattle.bookrun.specs.Printed.{answerLines, countedAll, noTally}
+use Rattle.bookrun.specs.Printed.{answerLines, line, counted, countedAll, noTally}
+use Rattle.bookrun.specs.Replies.{answerText}
 use Rattle.bookrun.specs.Scripts.{replies}
 
 -- no count is above the number of lines
@@ -23,6 +24,11 @@ pub record Small (t : Tally) (n : ℕ) : Type 0 where
   pub accepted : t .accepted ≤ n
   pub refused : t .refused ≤ n
   pub unread : t .unread ≤ n
+
+-- the reply to line n + 1 went behind old, and t counts it after those that t₀ counts
+pub record Written (r : Option Reply) (t₀ : Tally) (n : ℕ) (old new : List ℕ) (t : Tally) : Type 0 where
+  pub text : new ≡ old ++ line (answerText (n + 1) r)
+  pub tally : t ≡ counted r t₀
 
 -- part of a script is answered, from state s₀ with line n₀ + 1 as its first to state s after n lines, and rest is left
 pub record Sofar (s₀ : Option Meaning) (bs : List ℕ) (n₀ : ℕ) (t₀ : Tally) (old : List ℕ) (s : Option Meaning) (rest : List ℕ) (n : ℕ) (t : Tally) (new : List ℕ) : Type 0 where

@@ -1,7 +1,6 @@
 // The whole run, from the script to what is printed.
 ghost use mathlib.Core.Path.{_≡_};
-ghost use mathlib.Core.List.{_++_};
-ghost use Prim.Native.Nat.{_^_, _+_, _<_, _≤_};
+ghost use Prim.Native.Nat.{_^_, _+_, _<_};
 ghost use lib.ListN.{length};
 ghost use Rattle.std.specs.Of.String.{string-bytes};
 ghost use Rattle.std.specs.Vec.{made};
@@ -11,7 +10,7 @@ ghost use Rattle.text.specs.Lines.{lines, LinesOf};
 ghost use Rattle.bottom.specs.Ledger.{canMake};
 ghost use Rattle.bookrun.specs.Openings.{groundOf};
 ghost use Rattle.bookrun.specs.Printed.{answer as answerTo, counted as countedIn, isRefusal, noTally};
-ghost use Rattle.bookrun.specs.Runs.{Small, Began, Ran};
+ghost use Rattle.bookrun.specs.Runs.{Small, Written, Began, Ran};
 ghost use Rattle.bookrun.specs.Scripts.{SoundThroughout};
 use crate::opening::Opening;
 use crate::opening::open;
@@ -30,11 +29,11 @@ use std::alloc::Global;
 use std::fmt;
 use text::cut_line;
 
-// How far a script was answered: what is left of it, how many lines were read, and the count of their replies.
+// How far a script was answered: what is left of it, how many of its lines were read, and the count of their replies.
 #[derive(Drop)]
 struct Progress<'a> {
     rest: &'a [u8],
-    lines: u64,
+    read: u64,
     tally: Tally,
 }
 
@@ -48,9 +47,9 @@ fn is_refusal(reply: Reply) -> bool
     }
 }
 
-// The tally with one reply more, the one to line `number`.
-fn counted(tally: Tally, reply: Option<Reply>, number: u64) -> Tally
-    requires { ⌜ Small tally number ⌝ ∗ ⌜ number + 1 < 2 ^ 64 ⌝ }
+// The count of the replies to `read` lines and of one more.
+fn counted(tally: Tally, reply: Option<Reply>, read: u64) -> Tally
+    requires { ⌜ Small tally read ⌝ ∗ ⌜ read + 1 < 2 ^ 64 ⌝ }
     ensures { λ r. ⌜ r ≡ countedIn reply tally ⌝ }
 {
     let Some(reply) = reply else {
@@ -74,12 +73,30 @@ fn counted(tally: Tally, reply: Option<Reply>, number: u64) -> Tally
     }
 }
 
+// Writes the reply to the line after `read` others, and counts it.
+fn write_reply(
+    out: &mut String,
+    reply: Option<Reply>,
+    tally: Tally,
+    read: u64,
+) -> Result<Tally, fmt::Error>
+    requires { ⌜ Small tally read ⌝ ∗ ⌜ read + 1 < 2 ^ 64 ⌝ }
+    ensures { λ r. ⌜ made r (λ t. Written reply tally read (string-bytes (now (out .entry))) (string-bytes (now (out .exit))) t) ⌝ }
+{
+    let answered = Answered {
+        line: read + 1,
+        reply,
+    };
+    writeln!(out, "{answered}")?;
+    Ok(counted(tally, reply, read))
+}
+
 // Answers the lines of a script until there is a book, and says which.
 fn begin<'a>(
     out: &mut String,
     script: &'a [u8],
 ) -> Result<(Option<Opening>, Progress<'a>), fmt::Error>
-    ensures { λ r. ⌜ made r (λ o. Began (now (script .entry)) (string-bytes (now (out .entry))) (string-bytes (now (out .exit))) (o .0) (now (o .1 .rest)) (o .1 .lines) (o .1 .tally)) ⌝ }
+    ensures { λ r. ⌜ made r (λ o. Began (now (script .entry)) (string-bytes (now (out .entry))) (string-bytes (now (out .exit))) (o .0) (now (o .1 .rest)) (o .1 .read) (o .1 .tally)) ⌝ }
 {
     let mut tally = Tally {
         calls: 0,
@@ -87,44 +104,34 @@ fn begin<'a>(
         refused: 0,
         unread: 0,
     };
-    let mut lines: u64 = 0;
+    let mut read: u64 = 0;
     let mut rest = script;
     while !rest.is_empty() {
         let (text, after) = cut_line(rest);
         let (reply, opening) = open(read_line(text));
-        let answered = Answered {
-            line: lines + 1,
-            reply,
-        };
-        writeln!(out, "{answered}")?;
-        tally = counted(tally, reply, lines);
-        lines += 1;
+        tally = write_reply(out, reply, tally, read)?;
+        read += 1;
         rest = after;
         if opening.is_some() {
-            return Ok((opening, Progress { rest, lines, tally }));
+            return Ok((opening, Progress { rest, read, tally }));
         }
     }
-    Ok((None, Progress { rest, lines, tally }))
+    Ok((None, Progress { rest, read, tally }))
 }
 
 // Answers the lines that are left by calls on the book, and counts all replies.
 fn run<B: Book>(out: &mut String, book: &mut B, from: Progress) -> Result<Tally, fmt::Error>
-    requires { ⌜ Small (from .tally) (from .lines) ⌝ ∗ ⌜ from .lines + length (now (from .rest)) < 2 ^ 64 ⌝ }
-    ensures { λ r. ⌜ (B·Book .keeps (now (book .entry)) → made r (λ t. Ran (Some (B·Book .meaning (now (book .entry)))) (now (from .entry .rest)) (from .entry .lines) (from .entry .tally) (string-bytes (now (out .entry))) (string-bytes (now (out .exit))) t)) ⌝ }
+    requires { ⌜ Small (from .tally) (from .read) ⌝ ∗ ⌜ from .read + length (now (from .rest)) < 2 ^ 64 ⌝ }
+    ensures { λ r. ⌜ (B·Book .keeps (now (book .entry)) → made r (λ t. Ran (Some (B·Book .meaning (now (book .entry)))) (now (from .entry .rest)) (from .entry .read) (from .entry .tally) (string-bytes (now (out .entry))) (string-bytes (now (out .exit))) t)) ⌝ }
 {
     let mut tally = from.tally;
-    let mut lines = from.lines;
+    let mut read = from.read;
     let mut rest = from.rest;
     while !rest.is_empty() {
         let (text, after) = cut_line(rest);
         let reply = respond(book, read_line(text));
-        let answered = Answered {
-            line: lines + 1,
-            reply,
-        };
-        writeln!(out, "{answered}")?;
-        tally = counted(tally, reply, lines);
-        lines += 1;
+        tally = write_reply(out, reply, tally, read)?;
+        read += 1;
         rest = after;
     }
     Ok(tally)
@@ -132,8 +139,8 @@ fn run<B: Book>(out: &mut String, book: &mut B, from: Progress) -> Result<Tally,
 
 // Makes the book, and answers the lines that are left by calls on it.
 fn run_on(out: &mut String, opening: Opening, from: Progress) -> Result<Tally, fmt::Error>
-    requires { ⌜ Small (from .tally) (from .lines) ⌝ ∗ ⌜ from .lines + length (now (from .rest)) < 2 ^ 64 ⌝ }
-    ensures { λ r. ⌜ (canMake (opening .links) (opening .cycle) ≡ Ok tt → made r (λ t. Ran (Some (groundOf opening)) (now (from .entry .rest)) (from .entry .lines) (from .entry .tally) (string-bytes (now (out .entry))) (string-bytes (now (out .exit))) t)) ⌝ }
+    requires { ⌜ Small (from .tally) (from .read) ⌝ ∗ ⌜ from .read + length (now (from .rest)) < 2 ^ 64 ⌝ }
+    ensures { λ r. ⌜ (canMake (opening .links) (opening .cycle) ≡ Ok tt → made r (λ t. Ran (Some (groundOf opening)) (now (from .entry .rest)) (from .entry .read) (from .entry .tally) (string-bytes (now (out .entry))) (string-bytes (now (out .exit))) t)) ⌝ }
 {
     match opening.pile {
         Pile::Formula => {

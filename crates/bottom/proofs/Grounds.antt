@@ -1,9 +1,9 @@
 -- What becomes of a ledger.
 use mathlib.Core.Bool.{Bool, true, false, cond, not, _&&_}
 use mathlib.Core.Path.{_≡_, refl, sym, ap, subst, _∙_}
-use Prim.Native.Nat.{ℕ, _≤_, _<_}
+use Prim.Native.Nat.{ℕ, _≤_}
 use native.Mathlib.Omega.{arith}
-use lib.Dec.{leb, ltb}
+use lib.Dec.{ltb}
 use Rattle.std.proofs.shelf.Ways.{tells}
 use Rattle.std.specs.Options.{isSome}
 use Rattle.std.specs.Results.{andOther}
@@ -13,7 +13,7 @@ use Rattle.std.specs.declared.result.Result.{Result}
 use Rattle.std.specs.declared.result.Result.the-variants.{Ok, Err}
 use Rattle.book.specs.Calls.{unfit, unmet, firstMet, bookAnswer, bookAfter, changed, liftAnswer, liftAfter, standing, spanAnswer}
 use Rattle.book.specs.Form.{wellFormed}
-use Rattle.book.specs.Meaning.{Meaning, numbered, linked, present, with}
+use Rattle.book.specs.Meaning.{Meaning, numbered, linked, with}
 use Rattle.book.specs.Sound.{Suits, Sound}
 use Rattle.book.specs.Steps.{Did}
 use Rattle.book.specs.declared.BookFault.{BookFault}

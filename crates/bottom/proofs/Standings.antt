@@ -1,10 +1,8 @@
 -- A standing window by the formula.
-use mathlib.Core.Bool.{Bool, true, _&&_}
+use mathlib.Core.Bool.{Bool, _&&_}
 use mathlib.Core.Path.{_≡_, sym, ap, subst, _∙_}
 use Prim.Native.Nat.{ℕ, _<_}
-use lib.Dec.{eqb}
 use Rattle.std.proofs.shelf.Ways.{decides-eqb}
-use Rattle.std.specs.declared.option.Option.the-variants.{Some}
 use Rattle.book.specs.Calls.{meetsStanding}
 use Rattle.book.specs.Form.{GoodForm}
 use Rattle.book.specs.Holding.{meets}

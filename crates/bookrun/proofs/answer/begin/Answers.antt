@@ -11,8 +11,8 @@ use Rattle.bookrun.proofs.answer.begin.Needs as need
 pub returns-then-is-some : need.returns-then-is-some
 returns-then-is-some c =
     let some : 0 < length (c .loop-rest .rest .now) = omega (arith, false-eqb _ 0 (c .loop-rest-test .ensures tt)) in
-    began-here {new′ = string-bytes (c .writeln .last .self)}
-    (record { some = some; first = c .cut-line .ensures .first; later = c .cut-line .ensures .rest; read = c .read-line .ensures .value; counts = c .counted-tally .ensures; wrote = c .in-Continue-writeln .ensures tt .bytes })
+    began-here {new′ = string-bytes (c .write-reply .last .out)}
+    (record { some = some; first = c .cut-line .ensures .first; later = c .cut-line .ensures .rest; read = c .read-line .ensures .value; written = c .in-Continue-tally .ensures tt })
     (c .loop-rest .inv) (c .open-reply .result .1) (c .open-reply .ensures .reply) (c .open-reply .ensures .opened) (c .if-is-some .ensures tt) (c .open-reply .ensures .can)
 
 pub loop-rest-less : need.loop-rest-less
@@ -23,8 +23,8 @@ loop-rest-less c =
 pub loop-rest-again : need.loop-rest-again
 loop-rest-again c =
     let some : 0 < length (c .loop-rest .rest .now) = omega (arith, false-eqb _ 0 (c .loop-rest-test .ensures tt)) in
-    began-not {new′ = string-bytes (c .writeln .last .self)}
-    (record { some = some; first = c .cut-line .ensures .first; later = c .cut-line .ensures .rest; read = c .read-line .ensures .value; counts = c .counted-tally .ensures; wrote = c .in-Continue-writeln .ensures tt .bytes })
+    began-not {new′ = string-bytes (c .write-reply .last .out)}
+    (record { some = some; first = c .cut-line .ensures .first; later = c .cut-line .ensures .rest; read = c .read-line .ensures .value; written = c .in-Continue-tally .ensures tt })
     (c .loop-rest .inv) (c .open-reply .result .1) (c .open-reply .ensures .reply) (c .open-reply .ensures .opened) (c .if-is-some .ensures tt)
 
 pub returns : need.returns

@@ -7,7 +7,7 @@ use Rattle.bookrun.proofs.answer.begin.Given as given
 
 -- the lines so far are answered, and there is no book
 abbrev pub Inv-loop-rest : given.InvT-loop-rest
-Inv-loop-rest l = Sofar None (l .script) 0 noTally (string-bytes (l .entry .out)) None (l .rest) (l .lines) (l .tally) (string-bytes (l .out)) × Bounded (l .script) 0 (l .rest) (l .lines) (l .tally)
+Inv-loop-rest l = Sofar None (l .script) 0 noTally (string-bytes (l .entry .out)) None (l .rest) (l .read) (l .tally) (string-bytes (l .out)) × Bounded (l .script) 0 (l .rest) (l .read) (l .tally)
 
 abbrev pub μ-loop-rest : given.MeasureT-loop-rest
 μ-loop-rest l = length (l .rest)

@@ -16,8 +16,8 @@ loop-rest-less g c =
 pub loop-rest-again : need.loop-rest-again
 loop-rest-again g c =
     let some : 0 < length (c .loop-rest .rest .now) = omega (arith, false-eqb _ 0 (c .loop-rest-test .ensures tt)) in
-    called-more {new′ = string-bytes (c .writeln .last .self)}
-    (record { some = some; first = c .cut-line .ensures .first; later = c .cut-line .ensures .rest; read = c .read-line .ensures .value; counts = c .counted-tally .ensures; wrote = c .in-Continue-writeln .ensures tt .bytes })
+    called-more {n = c .loop-rest .read} {t = c .loop-rest .tally} {new = string-bytes (c .loop-rest .out)} {r = c .respond-reply .result} {new′ = string-bytes (c .write-reply .last .out)}
+    (record { some = some; first = c .cut-line .ensures .first; later = c .cut-line .ensures .rest; read = c .read-line .ensures .value; written = c .in-Continue-tally .ensures tt })
     _ _ _ _ _ (g .B·Book .meaning (c .loop-rest .book)) (g .B·Book .meaning (c .respond-reply .last .book)) _ (g .B·Book .keeps (c .loop-rest .book)) (g .B·Book .keeps (c .respond-reply .last .book)) (c .loop-rest .inv) (c .respond-reply .ensures)
 
 pub returns : need.returns

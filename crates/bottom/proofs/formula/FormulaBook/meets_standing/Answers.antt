@@ -1,4 +1,4 @@
-use mathlib.Core.Path.{sym, _∙_}
+use mathlib.Core.Path.{sym}
 use Rattle.bottom.proofs.Standings.{standing-met}
 use Rattle.bottom.proofs.formula.FormulaBook.meets_standing.Needs as need
 
