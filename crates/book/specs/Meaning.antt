@@ -25,9 +25,13 @@ linked l = leb 1 l && leb l 32
 abbrev pub present : Meaning → ℕ → Bool
 present m l = linked l && ltb 0 (m .cycle l)
 
+-- the same windows, but for what stands under number n
+abbrev pub replaced : ℕ → Option Window → (ℕ → Option Window) → ℕ → Option Window
+replaced n o windows k = cond (eqb k n) o (windows k)
+
 -- the same book, but for what stands under number n
 abbrev pub with : ℕ → Option Window → Meaning → Meaning
-with n o m = record { windows = λ k. cond (eqb k n) o (m .windows k); cycle = m .cycle; rest = m .rest }
+with n o m = record { windows = replaced n o (m .windows); cycle = m .cycle; rest = m .rest }
 
 -- a book without windows
 abbrev pub empty : (ℕ → ℕ) → (ℕ → ℕ) → Meaning

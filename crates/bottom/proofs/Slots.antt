@@ -10,9 +10,9 @@ use lib.Seq.{getD-set-same, getD-set-other}
 use Rattle.std.proofs.shelf.Ways.{tells, decides-eqb, not-from-decides}
 use Rattle.std.specs.declared.option.Option.{Option}
 use Rattle.std.specs.declared.option.Option.the-variants.{None}
-use Rattle.book.specs.Meaning.{numbered}
+use Rattle.book.specs.Meaning.{numbered, replaced}
 use Rattle.book.specs.declared.Window.{Window}
-use Rattle.bottom.specs.Table.{windowsOf, other}
+use Rattle.bottom.specs.Table.{windowsOf}
 
 nothing : (n k : ℕ) → getD (replicate {A = Option Window} n None) k None ≡ None
 nothing zero k = refl
@@ -30,7 +30,7 @@ no-windows i k = either (numbered k) _ (nothing 256 (k - 1)) i
 range : (n : ℕ) → numbered n ≡ true → (1 ≤ n) × (n ≤ 256)
 range n is = (grind (arith, tells), grind (arith, tells))
 
-pub one-changed : (slots : List (Option Window)) (n : ℕ) (o : Option Window) → length slots ≡ 256 → numbered n ≡ true → windowsOf (record { slots = set slots (n - 1) o }) ≡ other n o (windowsOf (record { slots = slots }))
+pub one-changed : (slots : List (Option Window)) (n : ℕ) (o : Option Window) → length slots ≡ 256 → numbered n ≡ true → windowsOf (record { slots = set slots (n - 1) o }) ≡ replaced n o (windowsOf (record { slots = slots }))
 one-changed slots n o long is i k = each k i
   where
     here : (k : ℕ) → k ≡ n → cond (numbered k) (getD (set slots (n - 1) o) (k - 1) None) None ≡ o
@@ -51,5 +51,5 @@ one-changed slots n o long is i k = each k i
     go k true same = here k (decides-eqb k n .0 same)
     go k false differs = apart k (not-from-decides _ (decides-eqb k n) differs) (numbered k) refl
 
-    each : (k : ℕ) → windowsOf (record { slots = set slots (n - 1) o }) k ≡ other n o (windowsOf (record { slots = slots })) k
+    each : (k : ℕ) → windowsOf (record { slots = set slots (n - 1) o }) k ≡ replaced n o (windowsOf (record { slots = slots })) k
     each k = go k (eqb k n) refl

@@ -1,7 +1,6 @@
 -- The windows that a table holds.
 use mathlib.Core.Bool.{cond}
 use Prim.Native.Nat.{ℕ, _-_}
-use lib.Dec.{eqb}
 use lib.ListN.{getD}
 use Rattle.std.specs.declared.option.Option.{Option}
 use Rattle.std.specs.declared.option.Option.the-variants.{None}
@@ -12,7 +11,3 @@ use Rattle.bottom.specs.declared.table.Table.{Table}
 -- the window under each number; the first place of the table is that of number 1
 abbrev pub windowsOf : Table → ℕ → Option Window
 windowsOf t n = cond (numbered n) (getD (t .slots) (n - 1) None) None
-
--- the same windows, but for what stands under number n
-abbrev pub other : ℕ → Option Window → (ℕ → Option Window) → ℕ → Option Window
-other n o windows k = cond (eqb k n) o (windows k)

@@ -2,8 +2,8 @@
 ghost use mathlib.Core.Bool.{true};
 ghost use mathlib.Core.Path.{_≡_};
 ghost use Rattle.std.specs.declared.option.Option.the-variants.{None};
-ghost use Rattle.book.specs.Meaning.{numbered};
-ghost use Rattle.bottom.specs.Table.{windowsOf, other};
+ghost use Rattle.book.specs.Meaning.{numbered, replaced};
+ghost use Rattle.bottom.specs.Table.{windowsOf};
 use book::Window;
 
 // The greatest number that a window may have.
@@ -41,7 +41,7 @@ impl Table {
 
     // Puts a window or none under the number, where there is such a number.
     pub fn set(&mut self, number: u32, slot: Option<Window>)
-        ensures { λ _. ⌜ (numbered number ≡ true → windowsOf (now (self .exit)) ≡ other number slot (windowsOf (now (self .entry)))) ⌝ }
+        ensures { λ _. ⌜ (numbered number ≡ true → windowsOf (now (self .exit)) ≡ replaced number slot (windowsOf (now (self .entry)))) ⌝ }
     {
         if is_number(number) {
             self.slots[number as usize - 1] = slot;
