@@ -8,9 +8,11 @@ ghost use Rattle.bottom.specs.Leading.{Leads};
 use book::Window;
 use periods::gcd;
 
-// How many steps, fewer than `period`, it is from `from` to a number that leaves the remainder of `to` by `period`.
+// How many steps, fewer than `period`, it is from `from` to a number that leaves the remainder of `to` by `period`;
+// 0 where there is no period.
 fn ahead(from: u32, to: u32, period: u32) -> u32
-    ensures { λ r. ⌜ (0 < period → Leads from to period r) ⌝ }
+    ensures leads { λ r. ⌜ (0 < period → Leads from to period r) ⌝ }
+    ensures none { λ r. ⌜ (period ≡ 0 → r ≡ 0) ⌝ }
 {
     if period == 0 {
         return 0;

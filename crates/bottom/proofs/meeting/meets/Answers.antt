@@ -15,8 +15,8 @@ returns-then-to-other-one c =
     let u = c .ahead-to-one .result in
     let is : ltb r (one .length) ≡ (ltb r (one .length) || ltb u (other .length)) = grind (arith, tells) in
     record {
-      always = formula-always one other _ r u (g .some) (g .reaches) (c .ahead-to-other .ensures) (c .ahead-to-one .ensures) _ is;
-      searched = formula-searched one other _ r u (g .some) (g .reaches) (c .ahead-to-other .ensures) (c .ahead-to-one .ensures) _ is;
+      always = formula-always one other _ r u (g .some) (g .reaches) (c .ahead-to-other .ensures .leads) (c .ahead-to-one .ensures .leads) _ is;
+      searched = formula-searched one other _ r u (g .some) (g .reaches) (c .ahead-to-other .ensures .leads) (c .ahead-to-one .ensures .leads) _ is;
     }
 
 pub returns-else-to-other-one : need.returns-else-to-other-one
@@ -28,6 +28,6 @@ returns-else-to-other-one c =
     let u = c .ahead-to-one .result in
     let is : ltb u (other .length) ≡ (ltb r (one .length) || ltb u (other .length)) = grind (arith, tells) in
     record {
-      always = formula-always one other _ r u (g .some) (g .reaches) (c .ahead-to-other .ensures) (c .ahead-to-one .ensures) _ is;
-      searched = formula-searched one other _ r u (g .some) (g .reaches) (c .ahead-to-other .ensures) (c .ahead-to-one .ensures) _ is;
+      always = formula-always one other _ r u (g .some) (g .reaches) (c .ahead-to-other .ensures .leads) (c .ahead-to-one .ensures .leads) _ is;
+      searched = formula-searched one other _ r u (g .some) (g .reaches) (c .ahead-to-other .ensures .leads) (c .ahead-to-one .ensures .leads) _ is;
     }
