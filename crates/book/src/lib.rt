@@ -1,4 +1,6 @@
 // The book of windows: what a book means, whoever keeps it.
+#![tactic(auto)]
+
 mod book;
 mod cases;
 mod emptiness;

@@ -1,4 +1,6 @@
 // Runs a script of calls on a book of windows and prints an answer line for each.
+#![tactic(auto)]
+
 mod answer;
 mod opening;
 mod perform;

@@ -1,4 +1,6 @@
 // Books that keep their windows themselves.
+#![tactic(auto)]
+
 mod formula;
 mod ledger;
 mod meeting;

@@ -1,4 +1,6 @@
 // Reads frames, one to a line, and prints the time that each takes on its link.
+#![tactic(auto)]
+
 mod answer;
 mod fault;
 mod key;

@@ -1,4 +1,6 @@
 // Books over other books: each hands its windows to the book below in another form.
+#![tactic(auto)]
+
 mod grain;
 mod per_link;
 mod rest;

@@ -1,4 +1,6 @@
 // A script of calls on a book: what its lines say.
+#![tactic(auto)]
+
 mod line;
 mod order;
 

@@ -1,4 +1,6 @@
 // The bytes of a text: its front, its lines and its decimal numbers.
+#![tactic(auto)]
+
 mod front;
 mod lines;
 mod numbers;
