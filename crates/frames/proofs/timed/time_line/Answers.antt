@@ -2,9 +2,9 @@ use Rattle.std.proofs.Common.{rules}
 use Rattle.frames.specs.Answer.{time_line}
 use Rattle.frames.proofs.timed.time_line.Goals as goal
 
-pub returns-in-err-frame : goal.returns-in-err-frame
+pub returns-in_err-frame : goal.returns-in_err-frame
 unfolding time_line
-returns-in-err-frame c = search rules
+returns-in_err-frame c = search rules
 
 pub returns : goal.returns
 unfolding time_line

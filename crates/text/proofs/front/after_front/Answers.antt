@@ -7,5 +7,5 @@ pub returns : goal.returns
 returns c =
     let bs = c.args.text.now in
     let p = c.args.front.now in
-    let r = c.strip-prefix.result in
-    found_after bs p r (strip_prefix_is Decides-eqb bs p r c.strip-prefix.ensures.cases)
+    let r = c.strip_prefix.result in
+    found_after bs p r (strip_prefix_is Decides-eqb bs p r c.strip_prefix.ensures.cases)

@@ -5,17 +5,17 @@ use Rattle.text.specs.Number.{number, seen}
 use Rattle.text.proofs.Decimal.{reads_number}
 use Rattle.text.proofs.numbers.number.Goals as goal
 
-pub split-at-requires : goal.split-at-requires
-split-at-requires c = omega (arith, c.digit-count.ensures, prefix_len-le-length is_ascii_digit c.args.text.now)
+pub split_at-requires : goal.split_at-requires
+split_at-requires c = omega (arith, c.digit_count.ensures, prefix_len-le-length is_ascii_digit c.args.text.now)
 
-pub returns-in-err-n : goal.returns-in-err-n
+pub returns-in_err-n : goal.returns-in_err-n
 unfolding number
-returns-in-err-n c =
-    let read : seen c.from-residual.result ≡ number c.args.text.now = search rules in
-    record { value = read; exact = reads_number c.args.text.now (seen c.from-residual.result) read }
+returns-in_err-n c =
+    let read : seen c.from_residual.result ≡ number c.args.text.now = search rules in
+    record { value = read; exact = reads_number c.args.text.now (seen c.from_residual.result) read }
 
 pub returns : goal.returns
 unfolding number
 returns c =
-    let read : Ok (c.in-ok-n.n, c.split-at.result.1.now) ≡ number c.args.text.now = search rules in
-    record { value = read; exact = reads_number c.args.text.now (Ok (c.in-ok-n.n, c.split-at.result.1.now)) read }
+    let read : Ok (c.in_ok-n.n, c.split_at.result.1.now) ≡ number c.args.text.now = search rules in
+    record { value = read; exact = reads_number c.args.text.now (Ok (c.in_ok-n.n, c.split_at.result.1.now)) read }

@@ -1,7 +1,7 @@
 use Rattle.frames.proofs.fault.ReasonDisplay.fmt.Goals as goal
 
 pub returns-in-LeadingZero-clause-writes : goal.returns-in-LeadingZero-clause-writes
-returns-in-LeadingZero-clause-writes g c = rw c.in-LeadingZero.is c.write-str-in-LeadingZero.ensures.writes
+returns-in-LeadingZero-clause-writes g c = rw c.in-LeadingZero.is c.write_str-in-LeadingZero.ensures.writes
 
 pub returns-in-Below-clause-writes : goal.returns-in-Below-clause-writes
 returns-in-Below-clause-writes g c = rw c.in-Below.is c.write.ensures.writes
