@@ -57,24 +57,25 @@ pub fn answer(heap: Global, input: &[u8]) -> Result<String, fmt::Error>
 #[cfg(test)]
 mod tests {
     use super::*;
-    use std::test::*;
+    use std::process::Abort;
+    use std::test::Fail;
 
     // Whether the program prints `text` for `input`.
-    fn prints(rt: HostRuntime, input: &[u8], text: &str) -> Result<(), Fail> {
+    fn prints(rt: &(impl Abort + AllocGlobal), input: &[u8], text: &str) -> Result<(), Fail> {
         let printed = answer(rt.alloc(), input)?;
-        assert_eq!(printed.as_str(), text);
+        assert_eq!(rt; printed.as_str(), text);
         Ok(())
     }
 
     #[test]
     fn no_lines(rt: HostRuntime) -> Result<(), Fail> {
-        prints(rt, b"", "frames=0 us=0\n")
+        prints(&rt, b"", "frames=0 us=0\n")
     }
 
     #[test]
     fn no_line_feed_at_the_end(rt: HostRuntime) -> Result<(), Fail> {
         let text = "size=233 rate=2 grain=100 steps=12 us=1200\nframes=1 us=1200\n";
-        prints(rt, b"size=233 rate=2 grain=100", text)
+        prints(&rt, b"size=233 rate=2 grain=100", text)
     }
 
     #[test]
@@ -83,13 +84,13 @@ mod tests {
             b"size=233 rate=2 grain=100\nsize=233 rate=2 grain=x\nsize=5 rate=1 grain=1\nbad\n";
         let text =
             "size=233 rate=2 grain=100 steps=12 us=1200\nrefused line=2 key=grain reason=digit expected\nframes=1 us=1200\n";
-        prints(rt, input, text)
+        prints(&rt, input, text)
     }
 
     #[test]
     fn bytes_that_are_no_text(rt: HostRuntime) -> Result<(), Fail> {
         prints(
-            rt,
+            &rt,
             b"size=5\xff",
             "refused line=1 key=rate reason=key expected\nframes=0 us=0\n",
         )
@@ -102,7 +103,7 @@ mod tests {
             input.push(b'7')?;
         }
         prints(
-            rt,
+            &rt,
             input.as_slice(),
             "refused line=1 key=size reason=number above 4294967295\nframes=0 us=0\n",
         )

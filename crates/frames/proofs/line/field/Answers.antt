@@ -2,9 +2,9 @@ use Rattle.std.proofs.Common.{rules}
 use Rattle.frames.specs.Line.{field}
 use Rattle.frames.proofs.line.field.Goals as goal
 
-pub returns-in-default : goal.returns-in-default
+pub returns-in_default : goal.returns-in_default
 unfolding field
-returns-in-default c = search rules
+returns-in_default c = search rules
 
 pub returns-in-Ok : goal.returns-in-Ok
 unfolding field
