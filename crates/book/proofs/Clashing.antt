@@ -8,7 +8,6 @@ use Rattle.book.specs.declared.window.Window.{Window}
 use Rattle.book.specs.Calls.{meets_standing, first_met, unfit, unmet, book_answer}
 use Rattle.book.specs.Form.{well_formed, GoodForm}
 use Rattle.book.specs.Holding.{Meet, meets}
-use Rattle.book.specs.Lowest.{lowest}
 use Rattle.book.specs.Meaning.{Meaning, numbered, linked, present}
 use Rattle.book.specs.Sound.{Stands, Suits, Proper, Sound, WouldMeet, Clashes, ClashExactly}
 use Rattle.book.proofs.Lowest.{Found, nowhere, somewhere, found}

@@ -1,5 +1,5 @@
 -- The causes before a clash, from the span of the window's link and what stands under its number.
-use Rattle.std.proofs.Common.{◌≡◌, ℕ, ◌≤◌, Bool, true, false, cond, not, ◌&&◌, ltb, is_some, Ok, Err, Option, Result, sym, refl, ap, ◌∙◌, ⊎_elim, mod-eq_of_lt, arith}
+use Rattle.std.proofs.Common.{◌≡◌, ℕ, ◌≤◌, Bool, true, false, cond, not, ◌&&◌, ltb, is_some, Ok, Err, Result, sym, refl, ap, ◌∙◌, ⊎_elim, mod-eq_of_lt, arith}
 use Rattle.std.proofs.lemmas.Bool.Decides.{nat_tests, leb_tells}
 use Rattle.std.specs.Result.{result_and}
 use Rattle.book.specs.declared.fault.BookFault.{BookFault}
@@ -7,7 +7,7 @@ use Rattle.book.specs.declared.fault.BookFault.TheVariants.{Absent, BadForm, Sta
 use Rattle.book.specs.declared.window.Window.{Window}
 use Rattle.book.specs.Calls.{misfit, unfit, span_answer}
 use Rattle.book.specs.Form.{GoodForm, well_formed}
-use Rattle.book.specs.Meaning.{Meaning, numbered, linked, present}
+use Rattle.book.specs.Meaning.{Meaning, numbered, linked}
 use Rattle.book.specs.Sound.{Suits, Proper, Sound}
 use Rattle.book.proofs.Clashing.{both, form_good, cycle_some}
 

@@ -10,7 +10,7 @@ use Rattle.book.specs.Calls.{meets_standing, first_met, unfit, unmet, book_answe
 use Rattle.book.specs.Holding.{Holds, Meet}
 use Rattle.book.specs.Lowest.{lowest}
 use Rattle.book.specs.Meaning.{Meaning, numbered, replaced, with}
-use Rattle.book.specs.Sound.{Stands, EachStanding, Suits, Proper, Sound, WouldMeet, HoldsAt}
+use Rattle.book.specs.Sound.{Stands, EachStanding, Suits, Proper, Sound, WouldMeet}
 use Rattle.book.specs.Steps.{Did}
 use Rattle.book.proofs.Clashing.{meets_standing_lem}
 use Rattle.book.proofs.Fitting.{free, unfit_proper}

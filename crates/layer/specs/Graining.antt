@@ -1,5 +1,5 @@
 -- A grain layer is a book that is kept in the one below.
-use Rattle.std.specs.Prelude.{◌≡◌, ℕ, suc, ◌+◌, ◌-◌, ◌*◌, ◌/◌, ◌%◌, ◌^◌, ◌<◌, ◌≤◌, Bool, true, false, cond, ◌&&◌, ltb, Some, None, Ok, Result, ◌==◌, ◌≢◌, nat_lt, refl}
+use Rattle.std.specs.Prelude.{◌≡◌, ℕ, ◌+◌, ◌-◌, ◌*◌, ◌/◌, ◌%◌, ◌^◌, ◌<◌, ◌≤◌, Bool, true, false, cond, ◌&&◌, ltb, Some, None, Ok, Result, ◌==◌, ◌≢◌, nat_lt, refl}
 use Rattle.std.proofs.Common.{sym, ap, subst, ◌∙◌, add-mul, mul_assoc, mul-pos, mul-one, mul-le-mul_left, mul-le-mul_right, le_of_mul-le-mul_right, mul-div_cancel, div-mul-le_self, div-le_self, le-div_iff_mul-le, arith}
 use Rattle.std.proofs.Math.Nat.{mul-mod_left}
 use Rattle.std.proofs.lemmas.Bool.Decides.{nat_tests}
@@ -18,7 +18,7 @@ use Rattle.book.proofs.NoWindows.{none_stands}
 use Rattle.book.proofs.Through.{Through, through_sound, through_held, replaced_through, each_with, each_without, booked_through, lifted_through, on_ok}
 use Rattle.layer.specs.Grains.{rounded_up, coarse_cycle, coarse_rest, finer, coarser, grain_meaning, Whole, GrainTied, can_make_grain}
 use Rattle.layer.specs.Vacant.{unless}
-use Rattle.layer.specs.Rounding.{whole, grain_some, quotient_some, rounded_covers, rounded_less, rounded_within, fine_before, coarse_before}
+use Rattle.layer.specs.Rounding.{whole, grain_some, quotient_some, rounded_covers, rounded_within, fine_before, coarse_before}
 
 -- a link that is there in steps of a grain: the grain is not 0, and divides the cycle
 pub record Fits (g c : ℕ) : Type 0 where

@@ -1,19 +1,18 @@
 -- A rest layer is a book that is kept in the one below.
-use Rattle.std.specs.Prelude.{◌≡◌, ℕ, ◌+◌, ◌-◌, ◌*◌, ◌^◌, ◌<◌, ◌≤◌, Bool, true, false, cond, Some, None, Ok, Option, Result, nat_lt, refl}
-use Rattle.std.proofs.Common.{sym, ap, ◌∙◌, arith}
+use Rattle.std.specs.Prelude.{◌≡◌, ℕ, ◌+◌, ◌-◌, ◌^◌, ◌<◌, ◌≤◌, Bool, true, false, Some, None, Ok, Option, Result, nat_lt, refl}
+use Rattle.std.proofs.Common.{sym, ap, arith}
 use Rattle.std.proofs.lemmas.Bool.Decides.{nat_tests}
 use Rattle.std.specs.Result.{result_and}
 use Rattle.book.specs.Calls.{misfit, book_answer, book_after, lift_answer, lift_after, held_answer, span_answer, holds_windows}
 use Rattle.book.specs.Form.{GoodForm}
-use Rattle.book.specs.Holding.{Holds, Meet}
-use Rattle.book.specs.Lowest.{lowest}
+use Rattle.book.specs.Holding.{Holds}
 use Rattle.book.specs.Meaning.{Meaning, linked, with}
-use Rattle.book.specs.Sound.{Suits, Sound, EachStanding}
+use Rattle.book.specs.Sound.{Sound}
 use Rattle.book.specs.Steps.{Did}
 use Rattle.book.specs.declared.BookFault.{BookFault}
 use Rattle.book.specs.declared.Window.{Window}
 use Rattle.book.proofs.Fitting.{fitting, period_short}
-use Rattle.book.proofs.Lowest.{Found, nowhere, somewhere, found}
+use Rattle.book.proofs.Lowest.{Found, nowhere, found}
 use Rattle.book.proofs.NoWindows.{none_stands}
 use Rattle.book.proofs.Through.{Through, through_sound, through_held, replaced_through, each_with, each_without, booked_through, lifted_through, on_ok}
 use Rattle.layer.specs.Rests.{longer, shorter, rest_meaning, RestTied, first_over, within, can_make_rest}

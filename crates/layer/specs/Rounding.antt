@@ -1,6 +1,6 @@
 -- Numbers over a grain.
-use Rattle.std.proofs.Common.{⊎_elim, sym, ap, ◌∙◌, add-mul, zero-mul, mod-lt, div-add-mod', mul-le-mul_right, mul-lt-mul_of_pos_right, lt_of_mul-lt-mul_right, arith}
-use Rattle.std.specs.Prelude.{◌≡◌, ℕ, zero, suc, ◌+◌, ◌-◌, ◌*◌, ◌/◌, ◌%◌, ◌<◌, ◌≤◌, min, refl}
+use Rattle.std.proofs.Common.{⊎_elim, ap, ◌∙◌, add-mul, zero-mul, mod-lt, div-add-mod', mul-le-mul_right, mul-lt-mul_of_pos_right, lt_of_mul-lt-mul_right, arith}
+use Rattle.std.specs.Prelude.{◌≡◌, ℕ, zero, suc, ◌+◌, ◌-◌, ◌*◌, ◌/◌, ◌%◌, ◌<◌, ◌≤◌, min}
 use Rattle.std.proofs.Math.Nat.{mod-zero}
 use Rattle.std.proofs.lemmas.Bool.Decides.{leb_tells}
 use Rattle.layer.specs.Grains.{rounded_up}

@@ -1,4 +1,4 @@
-use Rattle.std.proofs.Common.{◌≡◌, Bool, true, false, is_some, sym, ap, ◌∙◌, arith}
+use Rattle.std.proofs.Common.{◌≡◌, true, false, is_some, ap, ◌∙◌, arith}
 use Rattle.book.specs.Calls.{holds_windows}
 use Rattle.book.proofs.NoWindows.{found_window, some_decides}
 use Rattle.book.proofs.Scans.{scan_here, scan_past, scan_end}

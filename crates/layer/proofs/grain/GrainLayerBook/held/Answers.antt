@@ -1,4 +1,4 @@
-use Rattle.std.proofs.Common.{◌≡◌, ◌*◌, ◌%◌, None, sym, ap, ◌∙◌}
+use Rattle.std.proofs.Common.{◌≡◌, ◌*◌, ◌%◌, None, ◌∙◌}
 use Rattle.book.specs.Calls.{held_answer}
 use Rattle.book.proofs.Holders.{held_exactly}
 use Rattle.layer.specs.Links.{value_at}
