@@ -1,6 +1,6 @@
 // Worked cases: what the definitions must say of numbers that were worked out by hand.
 ghost use Rattle.std.specs.Prelude.{◌≡◌};
-ghost use Rattle.std.specs.List.{AllByRecursion as All};
+ghost use Rattle.std.specs.List.{AllByRecursion};
 ghost use Rattle.book.specs.Cases.{worked_cases, FirstMeeting};
 
 use crate::window::Window;
@@ -16,7 +16,7 @@ pub struct WorkedCase {
 // The list of worked cases.
 pub fn worked_cases() -> [WorkedCase; 2]
     ensures list { result ≡ worked_cases }
-    ensures hold { All FirstMeeting result }
+    ensures hold { AllByRecursion FirstMeeting result }
 {
     let other = Window {
         link: 1,

@@ -1,7 +1,7 @@
 -- A line is read by a form exactly when it is the form's keys, each followed by its number in decimal.
 use Rattle.std.proofs.Common.{◌≡◌, ℕ, List, [], ◌∷◌, ◌++◌, Some, None, Ok, Err, decimal, Option, Result, refl, ap, ◌∙◌, arith}
 use Rattle.std.specs.Result.{result_ok}
-use Rattle.std.specs.List.{AllByRecursion as All}
+use Rattle.std.specs.List.{AllByRecursion}
 use Rattle.text.specs.Front.{after}
 use Rattle.text.specs.Number.{number, NoDigit}
 use Rattle.text.proofs.Fronts.{after_front, front_after}
@@ -66,11 +66,11 @@ reads_some (k ∷ ks) f bs x is =
 abbrev pub Parted : List ℕ → Type 0
 Parted k = (rest : List ℕ) → NoDigit (k ++ rest)
 
-form_stops : (ks : List (List ℕ)) (ns : Numbers ks) → All Parted ks → NoDigit (form_text ks ns)
+form_stops : (ks : List (List ℕ)) (ns : Numbers ks) → AllByRecursion Parted ks → NoDigit (form_text ks ns)
 form_stops [] ns parted = refl
 form_stops (k ∷ ks) ns parted = parted.0 (decimal ns.0 ++ form_text ks ns.1)
 
-pub reads_back : {A : Type 0} (ks : List (List ℕ)) (f : Maker ks (Option A)) (ns : Numbers ks) → All Parted ks → Words ks ns → reads ks f (form_text ks ns) ≡ given ks f ns
+pub reads_back : {A : Type 0} (ks : List (List ℕ)) (f : Maker ks (Option A)) (ns : Numbers ks) → AllByRecursion Parted ks → Words ks ns → reads ks f (form_text ks ns) ≡ given ks f ns
 reads_back [] f ns parted words = refl
 reads_back (k ∷ ks) f ns parted words =
     let stop = form_stops ks ns.1 parted.1 in

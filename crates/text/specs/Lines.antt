@@ -1,6 +1,6 @@
 -- The lines of a text.
 use Rattle.std.specs.Prelude.{◌≡◌, ℕ, suc, ◌<◌, Bool, cond, not, ◌⊎◌, List, [], ◌∷◌, ◌++◌, length, take, drop, ◌==◌, ◌≢◌}
-use Rattle.std.specs.List.{prefix_len, AllByRecursion as All}
+use Rattle.std.specs.List.{prefix_len, AllByRecursion}
 
 -- a byte in front of the first line
 abbrev pub in_front : ℕ → List (List ℕ) → List (List ℕ)
@@ -29,5 +29,5 @@ after_line bs = drop (suc (prefix_len no_feed bs)) bs
 abbrev pub LinesOf : List (List ℕ) → List ℕ → Type 0
 LinesOf [] bs = bs ≡ []
 LinesOf (l ∷ ls) bs =
-    All (λ b. b ≢ 10) l
+    AllByRecursion (λ b. b ≢ 10) l
     × (((rest : List ℕ) × ((bs ≡ l ++ (10 ∷ rest)) × LinesOf ls rest)) ⊎ ((bs ≡ l) × ((0 < length l) × (ls ≡ []))))
