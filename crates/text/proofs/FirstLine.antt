@@ -1,6 +1,5 @@
 -- The first line of a text and the lines after it.
-use Rattle.std.proofs.Common.{◌≡◌, ℕ, suc, ◌+◌, ◌-◌, ◌<◌, Bool, true, false, cond, not, eqb, List, [], ◌∷◌, length, take, drop, sym, refl, ap, ◌∙◌, inl, inr, one-add, arith, length-drop}
-use Rattle.std.proofs.lemmas.List.{take_all, take_rest, drop_all}
+use Rattle.std.proofs.Common.{◌≡◌, ℕ, suc, ◌+◌, ◌<◌, ◌≤◌, Bool, true, false, cond, not, eqb, List, [], ◌∷◌, length, take, drop, refl, ap, inl, inr, one-add, arith, length-drop}
 use Rattle.std.specs.List.{prefix_len}
 use Rattle.std.proofs.lemmas.Bool.Decides.{Decides-eqb, not_from_Decides}
 use Rattle.text.specs.Lines.{in_front, lines, no_feed, first_line, after_line, LinesOf}
@@ -22,18 +21,18 @@ lines_first (b ∷ c ∷ bs) some = go (eqb b 10) (lines_first (c ∷ bs) (omega
 pub after_shorter : (bs : List ℕ) → 0 < length bs → length (after_line bs) < length bs
 after_shorter bs some = omega (arith, length-drop (suc (prefix_len no_feed bs)) bs)
 
--- a loop over the bytes that stopped at i: at a line feed, or at the end of the text
-pub cut_here : (bs : List ℕ) (i : ℕ) → prefix_len no_feed bs ≡ i → (take (i - 0) bs ≡ first_line bs) × (take (length bs - (i + 1)) (drop (i + 1) bs) ≡ after_line bs)
-cut_here bs i is = (
-  ap (λ k. take k bs) (let e : i - 0 ≡ prefix_len no_feed bs = omega arith in e),
-  take_rest bs (i + 1) ∙ ap (λ k. drop k bs) (let e : i + 1 ≡ suc (prefix_len no_feed bs) = omega arith in e),
-)
+-- a text has at most as many lines as bytes
+pub lines_few : (bs : List ℕ) → length (lines bs) ≤ length bs
+lines_few [] = omega arith
+lines_few (b ∷ bs) = go (eqb b 10) (lines_few bs)
+  where
+    front : (ls : List (List ℕ)) → length ls ≤ length bs → length (in_front b ls) ≤ suc (length bs)
+    front [] few = omega arith
+    front (l ∷ ls) few = omega arith
 
-pub cut_nowhere : (bs : List ℕ) → prefix_len no_feed bs ≡ length bs → (bs ≡ first_line bs) × (take (length bs - length bs) (drop (length bs) bs) ≡ after_line bs)
-cut_nowhere bs is = (
-  sym (ap (λ k. take k bs) is ∙ take_all (length bs) bs (omega arith)),
-  take_rest bs (length bs) ∙ drop_all (length bs) bs (omega arith) ∙ sym (drop_all (suc (prefix_len no_feed bs)) bs (omega arith)),
-)
+    go : (v : Bool) → length (lines bs) ≤ length bs → length (cond v ([] ∷ lines bs) (in_front b (lines bs))) ≤ suc (length bs)
+    go true few = omega arith
+    go false few = front (lines bs) few
 
 pub lines_are : (bs : List ℕ) → LinesOf (lines bs) bs
 lines_are [] = refl

@@ -6,5 +6,5 @@ mod lines;
 mod numbers;
 
 pub use front::after_front;
-pub use lines::cut_line;
+pub use lines::{Lines, cut_line};
 pub use numbers::{NumberFault, number};

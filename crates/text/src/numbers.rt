@@ -19,12 +19,7 @@ pub enum NumberFault {
 fn digit_count(text: &[u8]) -> usize
     ensures { result ≡ prefix_len is_ascii_digit text.now }
 {
-    for (i, byte) in text.iter().enumerate() {
-        if !byte.is_ascii_digit() {
-            return i;
-        }
-    }
-    text.len()
+    text.iter().take_while(|byte| byte.is_ascii_digit()).count()
 }
 
 // The number that the digits write, none where it is above 4,294,967,295.
@@ -44,13 +39,11 @@ fn value(digits: &[u8]) -> Option<u32>
 fn whole_number(digits: &[u8]) -> Result<u32, NumberFault>
     ensures { result ≡ whole_number digits.now }
 {
-    if digits.is_empty() {
-        return Err(NumberFault::DigitExpected);
+    match digits {
+        [] => Err(NumberFault::DigitExpected),
+        [b'0', _, ..] => Err(NumberFault::LeadingZero),
+        _ => value(digits).ok_or(NumberFault::TooGreat),
     }
-    if digits[0] == b'0' && digits.len() > 1 {
-        return Err(NumberFault::LeadingZero);
-    }
-    value(digits).ok_or(NumberFault::TooGreat)
 }
 
 // The number that `text` begins with, and what follows it.
