@@ -8,21 +8,14 @@ use crate::tally::Tally;
 use crate::timed::time_line;
 use std::alloc::Global;
 use std::fmt;
-use text::cut_line;
+use text::Lines;
 
 // Writes a line for each line of `input`, up to the first that is refused, and answers what was timed.
 fn answer_lines(out: &mut String, input: &[u8]) -> Result<Tally, fmt::Error>
     ensures { IfOk result (λ tally. Answered input.now (string_bytes out.old) (string_bytes out.new) tally) }
 {
-    let mut tally = Tally {
-        frames: 0,
-        micros: 0,
-    };
-    let mut line_number: usize = 0;
-    let mut rest = input;
-    while !rest.is_empty() {
-        let (line, after) = cut_line(rest);
-        line_number += 1;
+    let mut tally = Tally::default();
+    for (before, line) in Lines::of(input).enumerate() {
         match time_line(line) {
             Ok(timed) => {
                 writeln!(out, "{timed}")?;
@@ -31,14 +24,13 @@ fn answer_lines(out: &mut String, input: &[u8]) -> Result<Tally, fmt::Error>
             }
             Err(fault) => {
                 let refusal = Refusal {
-                    line: line_number,
+                    line: before + 1,
                     fault,
                 };
                 writeln!(out, "{refusal}")?;
                 return Ok(tally);
             }
         }
-        rest = after;
     }
     Ok(tally)
 }

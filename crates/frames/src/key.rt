@@ -1,6 +1,6 @@
 // The keys of a line.
 ghost use Rattle.std.specs.Prelude.{◌≡◌, Some};
-ghost use Rattle.frames.specs.Keys.{opening, range_of};
+ghost use Rattle.frames.specs.Keys.{opening, quantity_of, range_of};
 ghost use Rattle.frames.specs.Texts.{key_text};
 
 use network::{Quantity, Range};
@@ -30,10 +30,19 @@ impl Key {
     pub fn range(self) -> Range
         ensures { result ≡ range_of self }
     {
-        match self {
-            Key::Size => Quantity::Size.range(),
-            Key::Rate => Quantity::Rate.range(),
-            Key::Grain => Quantity::Grain.range(),
+        Quantity::from(self).range()
+    }
+}
+
+// What the key's number says.
+impl From<Key> for Quantity {
+    ghost from_gives = { λ key quantity. quantity ≡ quantity_of key };
+
+    fn from(key: Key) -> Quantity {
+        match key {
+            Key::Size => Quantity::Size,
+            Key::Rate => Quantity::Rate,
+            Key::Grain => Quantity::Grain,
         }
     }
 }

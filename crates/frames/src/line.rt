@@ -13,19 +13,14 @@ use text::{after_front, number};
 fn field(text: &[u8], key: Key) -> Result<(u32, &[u8]), Fault>
     ensures { seen result ≡ read_field key text.now }
 {
-    let Some(rest) = after_front(text, key.opening()) else {
-        return Err(Fault {
-            key,
-            reason: Reason::KeyExpected,
-        });
-    };
-    match number(rest) {
-        Ok(found) => Ok(found),
-        Err(fault) => Err(Fault {
-            key,
-            reason: Reason::from(fault),
-        }),
-    }
+    let rest = after_front(text, key.opening()).ok_or(Fault {
+        key,
+        reason: Reason::KeyExpected,
+    })?;
+    number(rest).map_err(|fault| Fault {
+        key,
+        reason: fault.into(),
+    })
 }
 
 // The three numbers of a line.

@@ -5,7 +5,7 @@ ghost use Rattle.frames.specs.Texts.{tally_text};
 use std::fmt;
 
 // How many frames were timed, and their µs in all.
-#[derive(Clone, Copy)]
+#[derive(Clone, Copy, Default)]
 pub struct Tally {
     pub frames: usize,
     pub micros: u128,

@@ -1,15 +1,12 @@
-use Rattle.std.proofs.Common.{rules}
+use Rattle.std.proofs.Common.{arith}
+use Rattle.std.proofs.lemmas.Grind.{common_steps}
 use Rattle.frames.specs.Line.{field}
 use Rattle.frames.proofs.line.field.Goals as goal
 
-pub returns-in_default : goal.returns-in_default
+pub returns-in_err-rest : goal.returns-in_err-rest
 unfolding field
-returns-in_default c = search rules
+returns-in_err-rest c = grind (arith, common_steps)
 
-pub returns-in-Ok : goal.returns-in-Ok
+pub returns : goal.returns
 unfolding field
-returns-in-Ok c = search rules
-
-pub returns-in-Err : goal.returns-in-Err
-unfolding field
-returns-in-Err c = search rules
+returns c = grind (arith, common_steps)
