@@ -2,7 +2,7 @@
 ghost use Rattle.std.specs.Prelude.{◌≡◌};
 ghost use Rattle.std.specs.Option.{option_map};
 ghost use Rattle.script.specs.Form.{field as read_field, ended, read_one, left};
-ghost use Rattle.script.specs.Reading.{pile_of, read_make, read_book, read_lift, read_find, read_held, read_span, read_call, read_line, ReadsExactly};
+ghost use Rattle.script.specs.Reading.{read_make, read_book, read_lift, read_find, read_held, read_span, read_call, read_line, ReadsExactly};
 
 use crate::order::{Call, Order, Pile};
 use book::Window;
@@ -19,7 +19,7 @@ fn field<'a>(text: &'a [u8], key: &[u8]) -> Option<(u32, &'a [u8])>
 fn end(rest: &[u8]) -> Option<()>
     ensures { result ≡ ended rest.now }
 {
-    if rest.is_empty() { Some(()) } else { None }
+    rest.is_empty().then_some(())
 }
 
 // The number of a line that has this key alone.
@@ -31,16 +31,6 @@ fn one(line: &[u8], key: &[u8]) -> Option<u32>
     Some(n)
 }
 
-// The pile that has this number.
-fn numbered_pile(n: u32) -> Option<Pile>
-    ensures { result ≡ pile_of n }
-{
-    match n {
-        1 => Some(Pile::Formula),
-        _ => None,
-    }
-}
-
 // The order of a line that makes a book.
 fn make(line: &[u8]) -> Option<Order>
     ensures { result ≡ read_make line.now }
@@ -49,7 +39,7 @@ fn make(line: &[u8]) -> Option<Order>
     let (links, rest) = field(rest, b" links=")?;
     let (cycle, rest) = field(rest, b" cycle=")?;
     end(rest)?;
-    let pile = numbered_pile(pile)?;
+    let pile = Pile::try_from(pile).ok()?;
     Some(Order::Make { pile, links, cycle })
 }
 
@@ -111,10 +101,10 @@ fn read_call(line: &[u8]) -> Option<Call>
     ensures { result ≡ read_call line.now }
 {
     book(line)
-        .or(lift(line))
-        .or(find(line))
-        .or(held(line))
-        .or(span(line))
+        .or_else(|| lift(line))
+        .or_else(|| find(line))
+        .or_else(|| held(line))
+        .or_else(|| span(line))
 }
 
 // The order that a line gives, none where it cannot be read.
@@ -122,48 +112,22 @@ pub fn read_line(line: &[u8]) -> Option<Order>
     ensures value { result ≡ read_line line.now }
     ensures exact { ReadsExactly line.now result }
 {
-    match read_call(line) {
-        Some(call) => Some(Order::Call(call)),
-        None => make(line),
-    }
+    read_call(line).map(Order::Call).or_else(|| make(line))
 }
 
 #[cfg(test)]
 mod tests {
     use super::*;
     use std::process::Abort;
-    use std::test::Fail;
 
-    // The first letter of an order's text, and its numbers with zeros up to five.
-    fn parts(order: Order) -> (u8, [u32; 5]) {
-        match order {
-            Order::Make {
-                pile: Pile::Formula,
-                links,
-                cycle,
-            } => (b'p', [1, links, cycle, 0, 0]),
-            Order::Call(Call::Book { number, window: w }) => {
-                (b'b', [number, w.link, w.start, w.length, w.period])
-            }
-            Order::Call(Call::Lift { number }) => (b'l', [number, 0, 0, 0, 0]),
-            Order::Call(Call::Find { number }) => (b'f', [number, 0, 0, 0, 0]),
-            Order::Call(Call::Held { link, step }) => (b'h', [link, step, 0, 0, 0]),
-            Order::Call(Call::Span { link }) => (b's', [link, 0, 0, 0, 0]),
-        }
+    // Whether `line` is read as this order.
+    fn reads(rt: &impl Abort, line: &[u8], order: Order) {
+        assert_eq!(rt; read_line(line), Some(order));
     }
 
-    // Whether `line` is read as the order with this letter and these numbers.
-    fn reads(rt: &impl Abort, line: &[u8], letter: u8, numbers: [u32; 5]) -> Result<(), Fail> {
-        match read_line(line) {
-            Some(order) => {
-                assert_eq!(rt; parts(order), (letter, numbers));
-                Ok(())
-            },
-            None => {
-                assert!(rt; false);
-                Ok(())
-            },
-        }
+    // Whether `line` is read as this call.
+    fn calls(rt: &impl Abort, line: &[u8], call: Call) {
+        reads(rt, line, Order::Call(call));
     }
 
     // Whether `line` cannot be read.
@@ -172,18 +136,22 @@ mod tests {
     }
 
     #[test]
-    fn orders(rt: HostRuntime) -> Result<(), Fail> {
-        reads(&rt, b"pile=1 links=2 cycle=24", b'p', [1, 2, 24, 0, 0])?;
-        reads(
-            &rt,
-            b"book=7 link=1 start=0 length=3 period=4294967295",
-            b'b',
-            [7, 1, 0, 3, 4_294_967_295],
-        )?;
-        reads(&rt, b"lift=1", b'l', [1, 0, 0, 0, 0])?;
-        reads(&rt, b"find=256", b'f', [256, 0, 0, 0, 0])?;
-        reads(&rt, b"held=1 step=8", b'h', [1, 8, 0, 0, 0])?;
-        reads(&rt, b"span=2", b's', [2, 0, 0, 0, 0])
+    fn orders(rt: HostRuntime) {
+        let (pile, links, cycle) = (Pile::Formula, 2, 24);
+        let make = Order::Make { pile, links, cycle };
+        reads(&rt, b"pile=1 links=2 cycle=24", make);
+        let window = Window {
+            link: 1,
+            start: 0,
+            length: 3,
+            period: 4_294_967_295,
+        };
+        let line = b"book=7 link=1 start=0 length=3 period=4294967295";
+        calls(&rt, line, Call::Book { number: 7, window });
+        calls(&rt, b"lift=1", Call::Lift { number: 1 });
+        calls(&rt, b"find=256", Call::Find { number: 256 });
+        calls(&rt, b"held=1 step=8", Call::Held { link: 1, step: 8 });
+        calls(&rt, b"span=2", Call::Span { link: 2 });
     }
 
     #[test]

@@ -1,15 +1,37 @@
 // What a line of a script asks for.
+ghost use Rattle.std.specs.Prelude.{◌≡◌};
+ghost use Rattle.std.specs.Result.{result_ok};
+ghost use Rattle.script.specs.Reading.{pile_of};
+
 use book::Window;
 
 // The books that a script can ask for.
-#[derive(Clone, Copy)]
+#[derive(Clone, Copy, Debug, PartialEq, Eq)]
 pub enum Pile {
     // The formula book alone.
     Formula,
 }
 
+// No pile has the number.
+#[derive(Clone, Copy, Debug, PartialEq, Eq)]
+pub struct NoSuchPile;
+
+// The pile that has this number.
+impl TryFrom<u32> for Pile {
+    type Error = NoSuchPile;
+
+    ghost try_from_gives = { λ n pile. result_ok pile ≡ pile_of n };
+
+    fn try_from(n: u32) -> Result<Pile, NoSuchPile> {
+        match n {
+            1 => Ok(Pile::Formula),
+            _ => Err(NoSuchPile),
+        }
+    }
+}
+
 // A call of a book.
-#[derive(Clone, Copy)]
+#[derive(Clone, Copy, Debug, PartialEq, Eq)]
 pub enum Call {
     Book { number: u32, window: Window },
     Lift { number: u32 },
@@ -18,7 +40,7 @@ pub enum Call {
     Span { link: u32 },
 }
 
-#[derive(Clone, Copy)]
+#[derive(Clone, Copy, Debug, PartialEq, Eq)]
 pub enum Order {
     // A book with so many links of this cycle.
     Make { pile: Pile, links: u32, cycle: u32 },
