@@ -1,5 +1,5 @@
 // A window: the steps of a link that are kept for one use, again and again.
-ghost use Rattle.std.specs.Prelude.{◌≡◌, ◌%◌, Decides};
+ghost use Rattle.std.specs.Prelude.{◌≡◌, Decides};
 ghost use Rattle.book.specs.Holding.{holds, Holds};
 ghost use Rattle.book.specs.Calls.{misfit};
 ghost use Rattle.book.specs.Form.{well_formed, GoodForm};
@@ -16,17 +16,6 @@ pub struct Window {
     pub period: u32,
 }
 
-// What `n` leaves by `period`; all of it where the period is 0 and nothing comes again.
-fn remainder(n: u64, period: u32) -> u64
-    ensures { result ≡ n % period }
-{
-    if period == 0 {
-        n
-    } else {
-        n % u64::from(period)
-    }
-}
-
 impl Window {
     // Whether the window, on a link with this rest, holds the step.
     pub fn holds(self, rest: u32, step: u64) -> bool
@@ -36,7 +25,9 @@ impl Window {
         let Some(since) = step.checked_sub(u64::from(self.start)) else {
             return false;
         };
-        remainder(since, self.period) < u64::from(self.length) + u64::from(rest)
+        // A window with no period comes only once.
+        let past = since.checked_rem(u64::from(self.period)).unwrap_or(since);
+        past < u64::from(self.length) + u64::from(rest)
     }
 
     // Whether a link with this cycle and this rest may have the window.

@@ -14,7 +14,7 @@ pub fn book_reply(answer: Result<(), BookFault>) -> Reply
 {
     match answer {
         Ok(()) => Reply::Done,
-        Err(fault) => Reply::Refused(fault.cause()),
+        Err(fault) => Reply::Refused(fault.into()),
     }
 }
 
@@ -24,7 +24,7 @@ fn lift_reply(answer: Result<Window, BookFault>) -> Reply
 {
     match answer {
         Ok(window) => Reply::Stands(window),
-        Err(fault) => Reply::Refused(fault.cause()),
+        Err(fault) => Reply::Refused(fault.into()),
     }
 }
 
