@@ -7,7 +7,7 @@ ghost use Rattle.std.proofs.Common.{rules};
 
 use crate::ledger::{Ledger, can_make};
 use crate::meeting::meets;
-use book::{Book, BookFault, LAST_WINDOW, Window, is_link};
+use book::{Book, BookFault, LAST_WINDOW, Span, Window, is_link};
 
 // A book of links 1 to n, each with the same cycle and no rest.
 #[derive(Drop)]
@@ -107,7 +107,7 @@ impl Book for FormulaBook {
         self.holder(link, step)
     }
 
-    fn span(&self, link: u32) -> (u32, u32) {
+    fn span(&self, link: u32) -> Span {
         self.ledger.span(link)
     }
 }

@@ -6,7 +6,7 @@ ghost use Rattle.book.specs.Steps.{Steps};
 ghost use Rattle.bottom.specs.Ledger.{meaning_of, Kept, can_make, ground};
 
 use crate::table::Table;
-use book::{BookFault, LAST_LINK, Window, is_window};
+use book::{BookFault, LAST_LINK, Span, Window, is_window};
 
 // The longest cycle, in steps.
 const LONGEST: u32 = 1_000_000;
@@ -44,13 +44,16 @@ impl Ledger {
     }
 
     // The cycle and the rest of the link, 0 and 0 where there is no such link.
-    pub fn span(&self, link: u32) -> (u32, u32)
+    pub fn span(&self, link: u32) -> Span
         ensures { Kept self.now → result ≡ span_answer link (meaning_of self.now) }
     {
         if (1..=self.links).contains(&link) {
-            (self.cycle, 0)
+            Span {
+                cycle: self.cycle,
+                rest: 0,
+            }
         } else {
-            (0, 0)
+            Span::default()
         }
     }
 
@@ -66,8 +69,8 @@ impl Ledger {
     pub fn unfit(&self, number: u32, window: Window) -> Result<(), BookFault>
         ensures { Kept self.now → result ≡ unfit_in number window (meaning_of self.now) }
     {
-        let (cycle, rest) = self.span(window.link);
-        window.check(number, cycle, rest)?;
+        let span = self.span(window.link);
+        window.check(number, span)?;
         if self.table.window(number).is_some() {
             return Err(BookFault::Standing { window: number });
         }
