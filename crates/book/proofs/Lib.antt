@@ -1,6 +1,7 @@
 pub mod Times
 pub mod Unbounded
 pub mod Lowest
+pub mod Searches
 pub mod Scans
 pub mod Clashing
 pub mod Fitting

@@ -6,6 +6,7 @@ mod cases;
 mod emptiness;
 mod fault;
 mod range;
+mod span;
 mod window;
 
 pub use book::Book;
@@ -13,4 +14,5 @@ pub use cases::{WorkedCase, worked_cases};
 pub use emptiness::holds_windows;
 pub use fault::{BookFault, Cause, MakeFault};
 pub use range::{LAST_LINK, LAST_WINDOW, is_link, is_window};
+pub use span::Span;
 pub use window::Window;

@@ -2,5 +2,3 @@ pub mod Remainders
 pub mod Slots
 pub mod Common
 pub mod Grounds
-pub mod Scans
-pub mod Standings

@@ -5,10 +5,9 @@ ghost use Rattle.book.specs.Sound.{Suits};
 ghost use Rattle.bottom.specs.Ledger.{meaning_of, Kept, can_make, ground};
 ghost use Rattle.std.proofs.Common.{rules};
 
-use crate::ledger::{Ledger, can_make, is_link};
+use crate::ledger::{Ledger, can_make};
 use crate::meeting::meets;
-use crate::table::LAST;
-use book::{Book, BookFault, Window};
+use book::{Book, BookFault, LAST_WINDOW, Span, Window, is_link};
 
 // A book of links 1 to n, each with the same cycle and no rest.
 #[derive(Drop)]
@@ -38,22 +37,15 @@ impl FormulaBook {
     fn meets_standing(&self, number: u32, window: Window) -> bool
         ensures { Kept self.now.ledger → Suits (meaning_of self.now.ledger) window → result ≡ meets_standing (meaning_of self.now.ledger) window ((meaning_of self.now.ledger).windows number) }
     {
-        match self.ledger.find(number) {
-            None => false,
-            Some(standing) => standing.link == window.link && meets(standing, window),
-        }
+        self.ledger.find(number).is_some_and(|standing| standing.link == window.link
+            && meets(standing, window))
     }
 
     // The lowest number whose window meets `window`.
     fn first_met(&self, window: Window) -> Option<u32>
         ensures { Kept self.now.ledger → Suits (meaning_of self.now.ledger) window → result ≡ first_met (meaning_of self.now.ledger) window }
     {
-        for number in 1..=LAST {
-            if self.meets_standing(number, window) {
-                return Some(number);
-            }
-        }
-        None
+        (1..=LAST_WINDOW).find(|&number| self.meets_standing(number, window))
     }
 
     // Whether the window may stand under the number, and if not, why.
@@ -74,10 +66,9 @@ impl FormulaBook {
     fn holds_standing(&self, number: u32, link: u32, step: u64) -> bool
         ensures { result ≡ holds_standing (meaning_of self.now.ledger) link step ((meaning_of self.now.ledger).windows number) }
     {
-        match self.ledger.find(number) {
-            None => false,
-            Some(window) => window.link == link && window.holds(0, step),
-        }
+        self.ledger
+            .find(number)
+            .is_some_and(|window| window.link == link && window.holds(0, step))
     }
 
     // The lowest number whose window holds the step of the link.
@@ -87,12 +78,7 @@ impl FormulaBook {
         if !is_link(link) {
             return None;
         }
-        for number in 1..=LAST {
-            if self.holds_standing(number, link, step) {
-                return Some(number);
-            }
-        }
-        None
+        (1..=LAST_WINDOW).find(|&number| self.holds_standing(number, link, step))
     }
 }
 
@@ -121,7 +107,7 @@ impl Book for FormulaBook {
         self.holder(link, step)
     }
 
-    fn span(&self, link: u32) -> (u32, u32) {
+    fn span(&self, link: u32) -> Span {
         self.ledger.span(link)
     }
 }
@@ -173,7 +159,7 @@ mod tests {
     #[test]
     fn every_number(rt: HostRuntime) {
         let mut book = FormulaBook::new(32, 256);
-        for number in 1..=LAST {
+        for number in 1..=LAST_WINDOW {
             assert_eq!(rt; book.book(number, window(32, number - 1, 1, 256)), Ok(()));
         }
         assert_eq!(rt; book.held(32, 256_000_000_255), Some(256));

@@ -1,15 +1,12 @@
 // The windows of a book whose links all have one cycle and no rest.
-ghost use Rattle.std.specs.Prelude.{◌≡◌, true, ◌&&◌, Ok, nat_lt};
+ghost use Rattle.std.specs.Prelude.{◌≡◌, true, Ok};
 ghost use Rattle.book.specs.Calls.{unfit as unfit_in, lift_answer, lift_after, find_answer, span_answer};
-ghost use Rattle.book.specs.Meaning.{numbered, linked, with as changed_at};
+ghost use Rattle.book.specs.Meaning.{numbered, with as changed_at};
 ghost use Rattle.book.specs.Steps.{Steps};
 ghost use Rattle.bottom.specs.Ledger.{meaning_of, Kept, can_make, ground};
 
-use crate::table::{Table, is_number};
-use book::{BookFault, Window};
-
-// The greatest number that a link may have.
-const LAST_LINK: u32 = 32;
+use crate::table::Table;
+use book::{BookFault, LAST_LINK, Span, Window, is_window};
 
 // The longest cycle, in steps.
 const LONGEST: u32 = 1_000_000;
@@ -22,29 +19,15 @@ pub struct Ledger {
     table: Table,
 }
 
-// Whether a link may have the number.
-pub fn is_link(number: u32) -> bool
-    ensures { result ≡ linked number }
-{
-    1 <= number && number <= LAST_LINK
-}
-
 // Whether there can be a ledger with so many links of this cycle.
 pub fn can_make(links: u32, cycle: u32) -> Result<(), BookFault>
     ensures { result ≡ can_make links cycle }
 {
-    if links <= LAST_LINK && 1 <= cycle && cycle <= LONGEST {
+    if links <= LAST_LINK && (1..=LONGEST).contains(&cycle) {
         Ok(())
     } else {
         Err(BookFault::Absent)
     }
-}
-
-// Whether a window may have the number, and its link, with this cycle, is there.
-fn is_there(number: u32, cycle: u32) -> bool
-    ensures { result ≡ (numbered number && nat_lt 0 cycle) }
-{
-    is_number(number) && cycle > 0
 }
 
 impl Ledger {
@@ -61,13 +44,16 @@ impl Ledger {
     }
 
     // The cycle and the rest of the link, 0 and 0 where there is no such link.
-    pub fn span(&self, link: u32) -> (u32, u32)
+    pub fn span(&self, link: u32) -> Span
         ensures { Kept self.now → result ≡ span_answer link (meaning_of self.now) }
     {
-        if 1 <= link && link <= self.links {
-            (self.cycle, 0)
+        if (1..=self.links).contains(&link) {
+            Span {
+                cycle: self.cycle,
+                rest: 0,
+            }
         } else {
-            (0, 0)
+            Span::default()
         }
     }
 
@@ -83,16 +69,8 @@ impl Ledger {
     pub fn unfit(&self, number: u32, window: Window) -> Result<(), BookFault>
         ensures { Kept self.now → result ≡ unfit_in number window (meaning_of self.now) }
     {
-        let (cycle, rest) = self.span(window.link);
-        if !is_there(number, cycle) {
-            return Err(BookFault::Absent);
-        }
-        if !window.is_well_formed(cycle, rest) {
-            return Err(BookFault::BadForm {
-                window: number,
-                rest,
-            });
-        }
+        let span = self.span(window.link);
+        window.check(number, span)?;
         if self.table.window(number).is_some() {
             return Err(BookFault::Standing { window: number });
         }
@@ -111,15 +89,14 @@ impl Ledger {
     pub fn lift(&mut self, number: u32) -> Result<Window, BookFault>
         ensures { Steps meaning_of Kept (lift_answer number) (lift_after number) self.old self.new result }
     {
-        if !is_number(number) {
+        if !is_window(number) {
             return Err(BookFault::Absent);
         }
-        match self.table.window(number) {
-            None => Err(BookFault::NothingThere { window: number }),
-            Some(window) => {
-                self.set(number, None);
-                Ok(window)
-            }
-        }
+        let window = self
+            .table
+            .window(number)
+            .ok_or(BookFault::NothingThere { window: number })?;
+        self.set(number, None);
+        Ok(window)
     }
 }

@@ -3,21 +3,11 @@ ghost use Rattle.std.specs.Prelude.{◌≡◌, true, None};
 ghost use Rattle.book.specs.Meaning.{numbered, replaced};
 ghost use Rattle.bottom.specs.Table.{windows_of};
 
-use book::Window;
-
-// The greatest number that a window may have.
-pub const LAST: u32 = 256;
+use book::{Window, is_window};
 
 #[derive(Drop)]
 pub struct Table {
     slots: [Option<Window>; 256],
-}
-
-// Whether a window may have the number.
-pub fn is_number(number: u32) -> bool
-    ensures { result ≡ numbered number }
-{
-    1 <= number && number <= LAST
 }
 
 impl Table {
@@ -32,7 +22,7 @@ impl Table {
     pub fn window(&self, number: u32) -> Option<Window>
         ensures { result ≡ windows_of self.now number }
     {
-        if !is_number(number) {
+        if !is_window(number) {
             return None;
         }
         self.slots[number as usize - 1]
@@ -42,7 +32,7 @@ impl Table {
     pub fn set(&mut self, number: u32, slot: Option<Window>)
         ensures { numbered number ≡ true → windows_of self.new ≡ replaced number slot (windows_of self.old) }
     {
-        if is_number(number) {
+        if is_window(number) {
             self.slots[number as usize - 1] = slot;
         }
     }

@@ -9,6 +9,7 @@ use Rattle.book.specs.Holding.{Holds}
 use Rattle.book.specs.Meaning.{Meaning, linked, with}
 use Rattle.book.specs.Sound.{Suits, Sound}
 use Rattle.book.specs.Steps.{Did}
+use Rattle.book.specs.declared.Span.{Span}
 use Rattle.book.specs.declared.BookFault.{BookFault}
 use Rattle.book.specs.declared.Window.{Window}
 use Rattle.book.proofs.Clashing.{both, cycle_some}
@@ -236,26 +237,26 @@ module _ (grain : ℕ → ℕ) where
         omega (arith, none on, ap (λ i. coarse_cycle (grain i) (m.cycle i)) link))
 
     -- the answer by the cycle of the link: none where it is 0, and otherwise that of the place in the cycle below
-    pub nowhere_held : Sound m → GrainTied grain m → (l s : ℕ) (span : ℕ × ℕ) → span ≡ span_answer l (grain_meaning grain m) → span.0 ≡ 0 → None ≡ held_answer l s (grain_meaning grain m)
+    pub nowhere_held : Sound m → GrainTied grain m → (l s : ℕ) (span : Span) → span ≡ span_answer l (grain_meaning grain m) → span.cycle ≡ 0 → None ≡ held_answer l s (grain_meaning grain m)
     nowhere_held sound tied l s span is none = sym (absent_held sound tied l s (λ on. sym (cycle on) ∙ none))
       where
-        At : Bool → ℕ × ℕ
-        At v = cond v ((grain_meaning grain m).cycle l, (grain_meaning grain m).rest l) (0, 0)
+        At : Bool → Span
+        At v = cond v (record { cycle = (grain_meaning grain m).cycle l; rest = (grain_meaning grain m).rest l }) (record { cycle = 0; rest = 0 })
 
-        cycle : linked l ≡ true → span.0 ≡ (grain_meaning grain m).cycle l
-        cycle on = ap (λ x. x.0) (is ∙ ap At on)
+        cycle : linked l ≡ true → span.cycle ≡ (grain_meaning grain m).cycle l
+        cycle on = ap (λ x. x.cycle) (is ∙ ap At on)
 
-    pub somewhere_held : Sound m → GrainTied grain m → (l s place : ℕ) (span : ℕ × ℕ) → span ≡ span_answer l (grain_meaning grain m) → (span.0 ≢ 0) → place ≡ s % span.0 * grain l → held_answer l place m ≡ held_answer l s (grain_meaning grain m)
+    pub somewhere_held : Sound m → GrainTied grain m → (l s place : ℕ) (span : Span) → span ≡ span_answer l (grain_meaning grain m) → (span.cycle ≢ 0) → place ≡ s % span.cycle * grain l → held_answer l place m ≡ held_answer l s (grain_meaning grain m)
     somewhere_held sound tied l s place span is some at = go (linked l) refl is
       where
-        go : (v : Bool) → linked l ≡ v → span ≡ cond v ((grain_meaning grain m).cycle l, (grain_meaning grain m).rest l) (0, 0) → held_answer l place m ≡ held_answer l s (grain_meaning grain m)
+        go : (v : Bool) → linked l ≡ v → span ≡ cond v (record { cycle = (grain_meaning grain m).cycle l; rest = (grain_meaning grain m).rest l }) (record { cycle = 0; rest = 0 }) → held_answer l place m ≡ held_answer l s (grain_meaning grain m)
         go true on same =
-            let cycle : span.0 ≡ (grain_meaning grain m).cycle l = ap (λ x. x.0) same in
+            let cycle : span.cycle ≡ (grain_meaning grain m).cycle l = ap (λ x. x.cycle) same in
             let fits = fits_from (grain l) (m.cycle l) (omega (arith, cycle, some)) in
             ap (λ x. held_answer l x m) (at ∙ ap (λ x. s % x * grain l) cycle)
             ∙ grain_held sound tied l (s % (grain_meaning grain m).cycle l) fits
             ∙ sym (held_in_cycle (grain_meaning grain m) (grain_sound sound tied) l s)
-        go false off same = absurd (some (ap (λ x. x.0) same))
+        go false off same = absurd (some (ap (λ x. x.cycle) same))
 
     -- one window more or less
     pub grain_with : (n : ℕ) (w : Window) → 0 < grain w.link → grain_meaning grain (with n (Some (finer grain w)) m) ≡ with n (Some w) (grain_meaning grain m)
@@ -281,7 +282,7 @@ module _ (grain : ℕ → ℕ) where
 
     module _ (m' : Meaning) (sound : Sound m) (tied : GrainTied grain m) (K : Type 0) (n : ℕ) where
       -- a window that passes the layer's test is the book's below
-      pub grain_booked : (w x : Window) (span : ℕ × ℕ) (r : Result (Unit {0}) BookFault) → span ≡ span_answer w.link (grain_meaning grain m) → Ok tt ≡ misfit n w span.0 span.1 → (w.start * grain w.link < 2 ^ 32 → w.length * grain w.link < 2 ^ 32 → w.period * grain w.link < 2 ^ 32 → x ≡ finer grain w) → Did r (book_answer n x m) m' (book_after n x m) K → Did r (book_answer n w (grain_meaning grain m)) (grain_meaning grain m') (book_after n w (grain_meaning grain m)) (K × GrainTied grain m')
+      pub grain_booked : (w x : Window) (span : Span) (r : Result (Unit {0}) BookFault) → span ≡ span_answer w.link (grain_meaning grain m) → Ok tt ≡ misfit n w span.cycle span.rest → (w.start * grain w.link < 2 ^ 32 → w.length * grain w.link < 2 ^ 32 → w.period * grain w.link < 2 ^ 32 → x ≡ finer grain w) → Did r (book_answer n x m) m' (book_after n x m) K → Did r (book_answer n w (grain_meaning grain m)) (grain_meaning grain m') (book_after n w (grain_meaning grain m)) (K × GrainTied grain m')
       grain_booked w x span r is passed low did =
           let proper = fitting (grain_meaning grain m) n w span is (sym passed) in
           let t = grain_through sound tied in

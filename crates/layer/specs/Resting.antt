@@ -9,6 +9,7 @@ use Rattle.book.specs.Holding.{Holds}
 use Rattle.book.specs.Meaning.{Meaning, linked, with}
 use Rattle.book.specs.Sound.{Sound}
 use Rattle.book.specs.Steps.{Did}
+use Rattle.book.specs.declared.Span.{Span}
 use Rattle.book.specs.declared.BookFault.{BookFault}
 use Rattle.book.specs.declared.Window.{Window}
 use Rattle.book.proofs.Fitting.{fitting, period_short}
@@ -117,7 +118,7 @@ module _ (extra : ℕ → ℕ) where
 
   module _ (m m' : Meaning) (sound : Sound m) (tied : RestTied extra m) (K : Type 0) (n : ℕ) where
     -- a window that passes the layer's test is the book's below
-    pub rest_booked : (w x : Window) (span : ℕ × ℕ) (r : Result (Unit {0}) BookFault) → span ≡ span_answer w.link (rest_meaning extra m) → Ok tt ≡ misfit n w span.0 span.1 → (w.length + extra w.link < 2 ^ 32 → x ≡ longer extra w) → Did r (book_answer n x m) m' (book_after n x m) K → Did r (book_answer n w (rest_meaning extra m)) (rest_meaning extra m') (book_after n w (rest_meaning extra m)) (K × RestTied extra m')
+    pub rest_booked : (w x : Window) (span : Span) (r : Result (Unit {0}) BookFault) → span ≡ span_answer w.link (rest_meaning extra m) → Ok tt ≡ misfit n w span.cycle span.rest → (w.length + extra w.link < 2 ^ 32 → x ≡ longer extra w) → Did r (book_answer n x m) m' (book_after n x m) K → Did r (book_answer n w (rest_meaning extra m)) (rest_meaning extra m') (book_after n w (rest_meaning extra m)) (K × RestTied extra m')
     rest_booked w x span r is passed low did =
         let proper = fitting (rest_meaning extra m) n w span is (sym passed) in
         let ends = proper.suits.form.ends in

@@ -6,7 +6,7 @@ ghost use Rattle.layer.specs.Grains.{coarse_cycle, coarse_rest, finer, coarser, 
 ghost use Rattle.layer.specs.Graining.{grain_sound};
 
 use crate::per_link::PerLink;
-use book::{Book, BookFault, MakeFault, Window, holds_windows};
+use book::{Book, BookFault, MakeFault, Span, Window, holds_windows};
 
 // A book over another one: a step of each link is as many steps below as the link's grain.
 #[derive(Drop)]
@@ -23,13 +23,17 @@ fn quotient(n: u32, grain: u32) -> u32
 }
 
 // A cycle and a rest in steps of a grain, 0 and 0 where the grain does not fit the cycle.
-fn coarse_span(cycle: u32, rest: u32, grain: u32) -> (u32, u32)
-    ensures { result ≡ (coarse_cycle grain cycle, coarse_rest grain cycle rest) }
+fn coarse_span(span: Span, grain: u32) -> Span
+    ensures { result ≡ record { cycle = coarse_cycle grain span.cycle; rest = coarse_rest grain span.cycle span.rest } }
 {
+    let Span { cycle, rest } = span;
     if grain == 0 || cycle == 0 || cycle % grain != 0 {
-        return (0, 0);
+        return Span::default();
     }
-    (cycle / grain, rest.div_ceil(grain))
+    Span {
+        cycle: cycle / grain,
+        rest: rest.div_ceil(grain),
+    }
 }
 
 impl<B: Book> GrainLayer<B> {
@@ -78,11 +82,10 @@ impl<B: Book> GrainLayer<B> {
     }
 
     // The cycle and the rest of the link.
-    fn own_span(&self, link: u32) -> (u32, u32)
+    fn own_span(&self, link: u32) -> Span
         ensures { B.Book.keeps self.now.below → result ≡ span_answer link (grain_meaning (value_at self.now.grain) (B.Book.meaning self.now.below)) }
     {
-        let (cycle, rest) = self.below.span(link);
-        coarse_span(cycle, rest, self.grain.at(link))
+        coarse_span(self.below.span(link), self.grain.at(link))
     }
 }
 
@@ -94,8 +97,8 @@ impl<B: Book> Book for GrainLayer<B> {
     ghost sound = { λ x (keeps, tied). grain_sound (value_at x.grain) (B.Book.meaning x.below) (B.Book.sound x.below keeps) tied };
 
     fn book(&mut self, number: u32, window: Window) -> Result<(), BookFault> {
-        let (cycle, rest) = self.own_span(window.link);
-        window.check(number, cycle, rest)?;
+        let span = self.own_span(window.link);
+        window.check(number, span)?;
         let window = self.refined(window);
         self.below.book(number, window)
     }
@@ -112,7 +115,7 @@ impl<B: Book> Book for GrainLayer<B> {
 
     // A link's steps are held alike in every cycle, so the place in the cycle is asked for below.
     fn held(&self, link: u32, step: u64) -> Option<u32> {
-        let (cycle, _) = self.own_span(link);
+        let Span { cycle, .. } = self.own_span(link);
         if cycle == 0 {
             return None;
         }
@@ -121,7 +124,7 @@ impl<B: Book> Book for GrainLayer<B> {
             .held(link, place * u64::from(self.grain.at(link)))
     }
 
-    fn span(&self, link: u32) -> (u32, u32) {
+    fn span(&self, link: u32) -> Span {
         self.own_span(link)
     }
 }

@@ -7,7 +7,7 @@ ghost use Rattle.layer.specs.Rests.{longer, shorter, rest_meaning, RestTied, fir
 ghost use Rattle.layer.specs.Resting.{rest_sound};
 
 use crate::per_link::PerLink;
-use book::{Book, BookFault, LAST_LINK, MakeFault, Window, holds_windows};
+use book::{Book, BookFault, LAST_LINK, MakeFault, Span, Window, holds_windows};
 
 // The greatest rest, in steps.
 const GREATEST: u64 = 1_000_000;
@@ -24,7 +24,7 @@ impl<B: Book> RestLayer<B> {
     fn is_over(below: &B, extra: &PerLink, link: u32) -> bool
         ensures { B.Book.keeps below.now → linked link ≡ true → result ≡ nat_lt 1000000 ((B.Book.meaning below.now).rest link + value_at extra.now link) }
     {
-        let (_, rest) = below.span(link);
+        let Span { rest, .. } = below.span(link);
         u64::from(rest) + u64::from(extra.at(link)) > GREATEST
     }
 
@@ -82,11 +82,14 @@ impl<B: Book> RestLayer<B> {
     }
 
     // The cycle and the rest of the link.
-    fn own_span(&self, link: u32) -> (u32, u32)
+    fn own_span(&self, link: u32) -> Span
         ensures { B.Book.keeps self.now.below → RestTied (value_at self.now.extra) (B.Book.meaning self.now.below) → result ≡ span_answer link (rest_meaning (value_at self.now.extra) (B.Book.meaning self.now.below)) }
     {
-        let (cycle, rest) = self.below.span(link);
-        (cycle, rest.saturating_add(self.extra.at(link)))
+        let Span { cycle, rest } = self.below.span(link);
+        Span {
+            cycle,
+            rest: rest.saturating_add(self.extra.at(link)),
+        }
     }
 }
 
@@ -98,8 +101,8 @@ impl<B: Book> Book for RestLayer<B> {
     ghost sound = { λ x (keeps, tied). rest_sound (value_at x.extra) (B.Book.meaning x.below) (B.Book.sound x.below keeps) tied };
 
     fn book(&mut self, number: u32, window: Window) -> Result<(), BookFault> {
-        let (cycle, rest) = self.own_span(window.link);
-        window.check(number, cycle, rest)?;
+        let span = self.own_span(window.link);
+        window.check(number, span)?;
         let window = self.lengthened(window);
         self.below.book(number, window)
     }
@@ -118,7 +121,7 @@ impl<B: Book> Book for RestLayer<B> {
         self.below.held(link, step)
     }
 
-    fn span(&self, link: u32) -> (u32, u32) {
+    fn span(&self, link: u32) -> Span {
         self.own_span(link)
     }
 }

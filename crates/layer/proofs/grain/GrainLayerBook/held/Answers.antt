@@ -26,7 +26,7 @@ returns g c =
     let m = g.B.Book.meaning below in
     let sound = g.met.B.Book.sound below in
     let is : g.B.Book.keeps below × GrainTied grain m → c.held.result ≡ held_answer c.args.link c.args.step (grain_meaning grain m) = λ (keeps, tied).
-    let place : c.args.step % c.from.result * c.from-2.result ≡ c.args.step % c.own_span-cycle.result.0 * grain c.args.link = λ i. c.args.step % c.from.ensures i * (c.from-2.ensures ∙ c.at.ensures) i in
+    let place : c.args.step % c.from.result * c.from-2.result ≡ c.args.step % c.own_span-cycle.result.cycle * grain c.args.link = λ i. c.args.step % c.from.ensures i * (c.from-2.ensures ∙ c.at.ensures) i in
     c.held.ensures.answer keeps ∙ somewhere_held grain m (sound keeps) tied c.args.link c.args.step _ c.own_span-cycle.result (c.own_span-cycle.ensures keeps) c.if-cycle-eq0.false place in
     record {
       answer = is;
