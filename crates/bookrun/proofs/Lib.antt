@@ -1,4 +1,3 @@
 pub mod Replying
-pub mod Turns
-pub mod Beginnings
+pub mod Telling
 pub mod Lawful

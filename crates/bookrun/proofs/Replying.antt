@@ -1,5 +1,8 @@
 -- From the answer of a book to the reply.
-use Rattle.std.proofs.Common.{◌≡◌, ℕ, Option, Result, sym, ap, ◌∙◌}
+use Rattle.std.proofs.Common.{◌≡◌, ℕ, Err, Option, Result, sym, ap, ◌∙◌}
+use Rattle.std.specs.Result.{IsErr, IsErrAnd}
+use Rattle.std.proofs.lemmas.Result.{err_from_is_err_and}
+use Rattle.book.specs.Causes.{cause_of}
 use Rattle.book.specs.Calls.{book_answer, book_after, lift_answer, lift_after, find_answer, held_answer, span_answer}
 use Rattle.book.specs.Meaning.{Meaning}
 use Rattle.book.specs.Steps.{Did}
@@ -8,8 +11,12 @@ use Rattle.book.specs.declared.Span.{Span}
 use Rattle.book.specs.declared.Window.{Window}
 use Rattle.script.specs.declared.Call.{Call}
 use Rattle.script.specs.declared.Call.TheVariants as call
-use Rattle.bookrun.specs.declared.reply.Reply.{Reply}
+use Rattle.bookrun.specs.Replies.{Reply}
 use Rattle.bookrun.specs.Performing.{reply, after, book_reply, lift_reply, find_reply, held_reply, span_reply}
+
+-- a refusal that is passed on is reported by its cause
+pub refusing : (r : Reply) (e : BookFault) → IsErr r × IsErrAnd r (λ c. c ≡ cause_of e) → r ≡ Err (cause_of e)
+refusing r e (bad, is) = let p = err_from_is_err_and r is in p.1 ∙ ap Err p.2
 
 module _ (m : Meaning) (K : Type 0) (c : Call) (r : Reply) where
   pub book_replied : (m' : Meaning) (n : ℕ) (w : Window) (a : Result (Unit {0}) BookFault) → c ≡ call.Book n w → r ≡ book_reply a → Did a (book_answer n w m) m' (book_after n w m) K → Did r (reply c m) m' (after c m) K

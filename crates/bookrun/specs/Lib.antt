@@ -3,4 +3,4 @@ pub mod Performing
 pub mod Scripts
 pub mod Printed
 pub mod Openings
-pub mod Runs
+pub mod Journals

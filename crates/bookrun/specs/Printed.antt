@@ -1,10 +1,8 @@
 -- What is printed for a script.
-use Rattle.std.specs.Prelude.{ℕ, suc, Bool, true, false, cond, List, [], ◌∷◌, ◌++◌, Some, None, codes, decimal, Option}
+use Rattle.std.specs.Prelude.{ℕ, suc, Bool, true, false, cond, List, [], ◌∷◌, ◌++◌, Some, None, Ok, Err, codes, decimal, Option}
 use Rattle.text.specs.Lines.{lines}
-use Rattle.bookrun.specs.declared.reply.Reply.{Reply}
-use Rattle.bookrun.specs.declared.reply.Reply.TheVariants.{Done, Refused, Stands, Holds, Nothing, Span}
 use Rattle.bookrun.specs.declared.tally.Tally.{Tally}
-use Rattle.bookrun.specs.Replies.{answer_text}
+use Rattle.bookrun.specs.Replies.{Reply, answer_text}
 use Rattle.bookrun.specs.Scripts.{replies}
 
 -- a text with a line feed
@@ -18,12 +16,8 @@ answer_lines n (r ∷ rs) = line (answer_text n r) ++ answer_lines (suc n) rs
 
 -- whether a reply is a refusal
 abbrev pub is_refusal : Reply → Bool
-is_refusal Done = false
-is_refusal (Refused c) = true
-is_refusal (Stands w) = false
-is_refusal (Holds n) = false
-is_refusal Nothing = false
-is_refusal (Span cycle rest) = false
+is_refusal (Ok a) = false
+is_refusal (Err c) = true
 
 -- one reply more: a line that was read is a call, accepted or refused
 abbrev pub counted : Option Reply → Tally → Tally

@@ -1,21 +1,30 @@
 -- The texts of replies.
-use Rattle.std.specs.Prelude.{ℕ, List, ◌++◌, Some, None, codes, decimal, Option}
+use Rattle.std.specs.Prelude.{ℕ, List, ◌++◌, Some, None, Ok, Err, codes, decimal, Option, Result}
+use Rattle.book.specs.declared.Cause.{Cause}
 use Rattle.book.specs.declared.Window.{Window}
-use Rattle.bookrun.specs.declared.reply.Reply.{Reply}
-use Rattle.bookrun.specs.declared.reply.Reply.TheVariants.{Done, Refused, Stands, Holds, Nothing, Span}
+use Rattle.bookrun.specs.declared.reply.Accepted.{Accepted}
+use Rattle.bookrun.specs.declared.reply.Accepted.TheVariants.{Done, Stands, Holds, Nothing, Spans}
+
+-- the answer to an accepted call, or why it was refused
+abbrev pub Reply : Type 0
+Reply = Result Accepted Cause
 
 -- a window by its four numbers
 abbrev pub window_text : Window → List ℕ
 window_text w = codes "link=" ++ (decimal w.link ++ (codes " start=" ++ (decimal w.start ++ (codes " length=" ++ (decimal w.length ++ (codes " period=" ++ decimal w.period))))))
 
+-- what is said of an accepted call
+abbrev pub accepted_text : Accepted → List ℕ
+accepted_text Done = codes "done"
+accepted_text (Stands w) = window_text w
+accepted_text (Holds n) = codes "number=" ++ decimal n
+accepted_text Nothing = codes "none"
+accepted_text (Spans s) = codes "cycle=" ++ (decimal s.cycle ++ (codes " rest=" ++ decimal s.rest))
+
 -- the line of a reply
 abbrev pub reply_text : Reply → List ℕ
-reply_text Done = codes "done"
-reply_text (Refused c) = codes "refused=" ++ (decimal c.number ++ (codes " a=" ++ (decimal c.a ++ (codes " b=" ++ decimal c.b))))
-reply_text (Stands w) = window_text w
-reply_text (Holds n) = codes "number=" ++ decimal n
-reply_text Nothing = codes "none"
-reply_text (Span cycle rest) = codes "cycle=" ++ (decimal cycle ++ (codes " rest=" ++ decimal rest))
+reply_text (Ok a) = accepted_text a
+reply_text (Err c) = codes "refused=" ++ (decimal c.number ++ (codes " a=" ++ (decimal c.a ++ (codes " b=" ++ decimal c.b))))
 
 -- the text of the reply to line n
 abbrev pub answer_text : ℕ → Option Reply → List ℕ

@@ -6,8 +6,8 @@ use Rattle.book.specs.declared.BookFault.{BookFault}
 use Rattle.bottom.specs.Ledger.{can_make, ground}
 use Rattle.script.specs.declared.Order.{Order}
 use Rattle.script.specs.declared.Order.TheVariants.{Make, Call}
-use Rattle.bookrun.specs.declared.reply.Reply.{Reply}
 use Rattle.bookrun.specs.Performing.{reply, after, book_reply}
+use Rattle.bookrun.specs.Replies.{Reply}
 use Rattle.script.specs.Reading.{read_line}
 
 -- before there is a book only an order to make one is answered; any other line cannot be read

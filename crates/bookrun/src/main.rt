@@ -2,6 +2,7 @@
 #![tactic(auto)]
 
 mod answer;
+mod journal;
 mod opening;
 mod perform;
 mod reply;

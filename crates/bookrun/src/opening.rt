@@ -1,12 +1,8 @@
 // The order that makes the book of a script.
-ghost use Rattle.std.specs.Prelude.{◌≡◌, IfSome, Ok};
-ghost use Rattle.std.specs.Option.{option_map};
-ghost use Rattle.bottom.specs.Ledger.{can_make};
-ghost use Rattle.bookrun.specs.Openings.{ground_of};
-ghost use Rattle.bookrun.specs.Scripts.{opening_reply, opened};
+ghost use Rattle.std.specs.Prelude.{◌≡◌, Ok};
+ghost use Rattle.bottom.specs.Ledger.{can_make, ground};
 
-use crate::perform::book_reply;
-use crate::reply::Reply;
+use book::Cause;
 use bottom::FormulaBook;
 use script::{Order, Pile};
 
@@ -16,21 +12,33 @@ pub struct Opening {
     pub pile: Pile,
     pub links: u32,
     pub cycle: u32,
+    ghost can: { can_make links cycle ≡ Ok tt },
 }
 
-// The reply to an order while there is no book, and the book that can be made then.
-pub fn open(order: Option<Order>) -> (Option<Reply>, Option<Opening>)
-    ensures reply { result.0 ≡ opening_reply order }
-    ensures opened { option_map ground_of result.1 ≡ opened order }
-    ensures can { IfSome result.1 (λ o. can_make o.links o.cycle ≡ Ok tt) }
-{
-    let Some(Order::Make { pile, links, cycle }) = order else {
-        return (None, None);
-    };
-    let answer = FormulaBook::can_make(links, cycle);
-    let opening = match answer {
-        Ok(()) => Some(Opening { pile, links, cycle }),
-        Err(_) => None,
-    };
-    (Some(book_reply(answer)), opening)
+impl Opening {
+    ghost use Rattle.std.specs.Option.{option_map, option_and_then};
+    ghost use Rattle.std.specs.Result.{result_ok};
+    ghost use Rattle.bookrun.specs.Openings.{ground_of, opened_by};
+    ghost use Rattle.bookrun.specs.Performing.{book_reply};
+    ghost use Rattle.bookrun.specs.Scripts.{made, opening_reply, opened};
+
+    // The book of such a pile, or why it cannot be made.
+    fn new(pile: Pile, links: u32, cycle: u32) -> Result<Opening, Cause>
+        ensures reply { opened_by result ≡ book_reply (can_make links cycle) }
+        ensures opened { option_map ground_of (result_ok result) ≡ made (can_make links cycle) (ground links cycle) }
+    {
+        FormulaBook::can_make(links, cycle)?;
+        Ok(Opening { pile, links, cycle })
+    }
+
+    // The book that an order asks for while there is none, or why it cannot be made; none where it asks for no book.
+    pub fn of(order: Option<Order>) -> Option<Result<Opening, Cause>>
+        ensures reply { option_map opened_by result ≡ opening_reply order }
+        ensures opened { option_map ground_of (option_and_then result_ok result) ≡ opened order }
+    {
+        match order {
+            Some(Order::Make { pile, links, cycle }) => Some(Opening::new(pile, links, cycle)),
+            _ => None,
+        }
+    }
 }

@@ -1,16 +1,15 @@
 // What is answered to an order.
 ghost use Rattle.std.specs.Prelude.{Some};
-ghost use Rattle.bookrun.specs.Replies.{reply_text, answer_text};
+ghost use Rattle.bookrun.specs.Replies.{accepted_text, answer_text};
 
-use book::{Cause, Window};
+use book::{Cause, Span, Window};
 use std::fmt;
 
+// What an accepted call is answered with.
 #[derive(Clone, Copy)]
-pub enum Reply {
+pub enum Accepted {
     // The book was made, or the window stands.
     Done,
-    // The call was refused.
-    Refused(Cause),
     // The window that was asked for or taken out.
     Stands(Window),
     // The number of the window that holds the step.
@@ -18,20 +17,19 @@ pub enum Reply {
     // There is no such window.
     Nothing,
     // The cycle and the rest of a link.
-    Span { cycle: u32, rest: u32 },
+    Spans(Span),
 }
 
-impl fmt::Display for Reply {
-    ghost output = { λ r. Some (reply_text r) };
+// The answer to a call, or why it was refused.
+pub type Reply = Result<Accepted, Cause>;
+
+impl fmt::Display for Accepted {
+    ghost output = { λ a. Some (accepted_text a) };
 
     fn fmt<W: fmt::Write>(&self, f: &mut fmt::Formatter<W>) -> fmt::Result {
         match self {
-            Reply::Done => f.write_str("done"),
-            Reply::Refused(cause) => {
-                let Cause { number, a, b } = *cause;
-                write!(f, "refused={number} a={a} b={b}")
-            }
-            Reply::Stands(window) => {
+            Accepted::Done => f.write_str("done"),
+            Accepted::Stands(window) => {
                 let Window {
                     link,
                     start,
@@ -43,9 +41,12 @@ impl fmt::Display for Reply {
                     "link={link} start={start} length={length} period={period}"
                 )
             }
-            Reply::Holds(number) => write!(f, "number={number}"),
-            Reply::Nothing => f.write_str("none"),
-            Reply::Span { cycle, rest } => write!(f, "cycle={cycle} rest={rest}"),
+            Accepted::Holds(number) => write!(f, "number={number}"),
+            Accepted::Nothing => f.write_str("none"),
+            Accepted::Spans(span) => {
+                let Span { cycle, rest } = *span;
+                write!(f, "cycle={cycle} rest={rest}")
+            }
         }
     }
 }
@@ -62,7 +63,8 @@ impl fmt::Display for Answered {
 
     fn fmt<W: fmt::Write>(&self, f: &mut fmt::Formatter<W>) -> fmt::Result {
         match self.reply {
-            Some(reply) => write!(f, "{reply}"),
+            Some(Ok(accepted)) => write!(f, "{accepted}"),
+            Some(Err(Cause { number, a, b })) => write!(f, "refused={number} a={a} b={b}"),
             None => {
                 let line = self.line;
                 write!(f, "unread line={line}")
