@@ -16,11 +16,11 @@ abbrev pub no_rest : ℕ → ℕ
 no_rest l = 0
 
 abbrev pub meaning_of : Ledger → Meaning
-meaning_of l = record { windows = windows_of l.table; cycle = cycle_of l.links l.cycle; rest = no_rest }
+meaning_of l = record { windows = windows_of l.table; cycle = cycle_of l.ground.links l.ground.cycle; rest = no_rest }
 
 -- the ledger has at most 32 links, and what it means is sound
 pub record Kept (l : Ledger) : Type 0 where
-  pub links : l.links ≤ 32
+  pub links : l.ground.links ≤ 32
   pub sound : Sound (meaning_of l)
 
 -- whether a book with so many links, all of one cycle, can be made: 0 to 32 links, and a cycle of 1 to 1,000,000 steps

@@ -3,42 +3,27 @@ ghost use Rattle.std.specs.Prelude.{◌≡◌, true, Ok};
 ghost use Rattle.book.specs.Calls.{unfit as unfit_in, lift_answer, lift_after, find_answer, span_answer};
 ghost use Rattle.book.specs.Meaning.{numbered, with as changed_at};
 ghost use Rattle.book.specs.Steps.{Steps};
-ghost use Rattle.bottom.specs.Ledger.{meaning_of, Kept, can_make, ground};
+ghost use Rattle.bottom.specs.Ledger.{meaning_of, Kept, can_make, ground as without_windows};
 
+use crate::ground::Ground;
 use crate::table::Table;
-use book::{BookFault, LAST_LINK, Span, Window, is_window};
+use book::{BookFault, Span, Window, is_window};
 
-// The longest cycle, in steps.
-const LONGEST: u32 = 1_000_000;
-
-// Links 1 to `links`, each with this cycle, and their windows.
+// The links of a book, and their windows.
 #[derive(Drop)]
 pub struct Ledger {
-    links: u32,
-    cycle: u32,
+    ground: Ground,
     table: Table,
-}
-
-// Whether there can be a ledger with so many links of this cycle.
-pub fn can_make(links: u32, cycle: u32) -> Result<(), BookFault>
-    ensures { result ≡ can_make links cycle }
-{
-    if links <= LAST_LINK && (1..=LONGEST).contains(&cycle) {
-        Ok(())
-    } else {
-        Err(BookFault::Absent)
-    }
 }
 
 impl Ledger {
     // A ledger without windows.
-    pub fn new(links: u32, cycle: u32) -> Ledger
-        ensures means { meaning_of result ≡ ground links cycle }
-        ensures kept { can_make links cycle ≡ Ok tt → Kept result }
+    pub fn new(ground: Ground) -> Ledger
+        ensures means { meaning_of result ≡ without_windows ground.links ground.cycle }
+        ensures kept { can_make ground.links ground.cycle ≡ Ok tt → Kept result }
     {
         Ledger {
-            links,
-            cycle,
+            ground,
             table: Table::empty(),
         }
     }
@@ -47,9 +32,9 @@ impl Ledger {
     pub fn span(&self, link: u32) -> Span
         ensures { Kept self.now → result ≡ span_answer link (meaning_of self.now) }
     {
-        if (1..=self.links).contains(&link) {
+        if (1..=self.ground.links).contains(&link) {
             Span {
-                cycle: self.cycle,
+                cycle: self.ground.cycle,
                 rest: 0,
             }
         } else {
@@ -80,7 +65,7 @@ impl Ledger {
     // Puts a window or none under the number, where there is such a number.
     pub fn set(&mut self, number: u32, slot: Option<Window>)
         ensures means { numbered number ≡ true → meaning_of self.new ≡ changed_at number slot (meaning_of self.old) }
-        ensures links { self.new.links ≡ self.old.links }
+        ensures ground { self.new.ground ≡ self.old.ground }
     {
         self.table.set(number, slot);
     }

@@ -2,8 +2,10 @@
 #![tactic(auto)]
 
 mod formula;
+mod ground;
 mod ledger;
 mod meeting;
 mod table;
 
 pub use formula::FormulaBook;
+pub use ground::Ground;

@@ -4,6 +4,6 @@ use Rattle.bottom.proofs.ledger.Ledger.set.Goals as goal
 
 pub returns : goal.returns
 returns c = record {
-  means = λ number i. record { windows = c.set.ensures number i; cycle = cycle_of c.args.self.now.links c.args.self.now.cycle; rest = no_rest };
-  links = refl;
+  means = λ number i. record { windows = c.set.ensures number i; cycle = cycle_of c.args.self.now.ground.links c.args.self.now.ground.cycle; rest = no_rest };
+  ground = refl;
 }
