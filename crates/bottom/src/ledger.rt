@@ -6,14 +6,16 @@ ghost use Rattle.book.specs.Steps.{Steps};
 ghost use Rattle.bottom.specs.Ledger.{meaning_of, Kept, can_make, ground as without_windows};
 
 use crate::ground::Ground;
-use crate::table::Table;
-use book::{BookFault, Span, Window, is_window};
+use book::{BookFault, LAST_WINDOW, Numbered, Span, Window, is_window};
 
-// The links of a book, and their windows.
+// How many numbers windows may have.
+const WINDOWS: usize = LAST_WINDOW as usize;
+
+// The links of a book, and their windows by their numbers.
 #[derive(Drop)]
 pub struct Ledger {
     ground: Ground,
-    table: Table,
+    windows: Numbered<Option<Window>, WINDOWS>,
 }
 
 impl Ledger {
@@ -24,7 +26,7 @@ impl Ledger {
     {
         Ledger {
             ground,
-            table: Table::empty(),
+            windows: Numbered::all(None),
         }
     }
 
@@ -47,7 +49,7 @@ impl Ledger {
         ensures answer { result ≡ find_answer number (meaning_of self.now) }
         ensures stands { result ≡ (meaning_of self.now).windows number }
     {
-        self.table.window(number)
+        self.windows.at(number).flatten()
     }
 
     // Why the window cannot stand under the number, whatever the other windows are.
@@ -56,7 +58,7 @@ impl Ledger {
     {
         let span = self.span(window.link);
         window.check(number, span)?;
-        if self.table.window(number).is_some() {
+        if self.find(number).is_some() {
             return Err(BookFault::Standing { window: number });
         }
         Ok(())
@@ -67,7 +69,7 @@ impl Ledger {
         ensures means { numbered number ≡ true → meaning_of self.new ≡ changed_at number slot (meaning_of self.old) }
         ensures ground { self.new.ground ≡ self.old.ground }
     {
-        self.table.set(number, slot);
+        self.windows.set(number, slot);
     }
 
     // Takes the number's window out and answers it.
@@ -78,8 +80,7 @@ impl Ledger {
             return Err(BookFault::Absent);
         }
         let window = self
-            .table
-            .window(number)
+            .find(number)
             .ok_or(BookFault::NothingThere { window: number })?;
         self.set(number, None);
         Ok(window)

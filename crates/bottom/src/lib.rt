@@ -5,7 +5,6 @@ mod formula;
 mod ground;
 mod ledger;
 mod meeting;
-mod table;
 
 pub use formula::FormulaBook;
 pub use ground::Ground;
