@@ -9,7 +9,7 @@ use Rattle.bookrun.specs.Replies.{Reply}
 
 -- what it means when it is made
 abbrev pub ground_of : Opening → Meaning
-ground_of o = ground o.links o.cycle
+ground_of o = ground o.ground.links o.ground.cycle
 
 -- the reply to an order that opens a book, or says why there is none
 abbrev pub opened_by : Result Opening Cause → Reply

@@ -48,7 +48,7 @@ fn run_on(journal: Journal, lines: Lines, opening: Opening) -> Result<Journal, f
 {
     match opening.pile {
         Pile::Formula => {
-            let mut book = FormulaBook::new(opening.links, opening.cycle);
+            let mut book = FormulaBook::new(opening.ground);
             run(journal, lines, &mut book)
         }
     }

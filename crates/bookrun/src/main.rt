@@ -11,14 +11,9 @@ mod tally;
 use std::io;
 use std::io::Read;
 
-// Answers standard input on standard output.
-fn run(rt: &HostRuntime) -> io::Result<()> {
+fn main(rt: HostRuntime) -> io::Result<()> {
     let heap = rt.alloc();
     let mut script = Vec::new(heap);
     rt.stdin().read_to_end(&mut script)?;
     rt.print(answer::answer(heap, script.as_slice())?)
-}
-
-fn main(rt: HostRuntime) -> io::Result<()> {
-    run(&rt)
 }

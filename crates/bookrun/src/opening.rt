@@ -1,18 +1,17 @@
 // The order that makes the book of a script.
 ghost use Rattle.std.specs.Prelude.{◌≡◌, Ok};
-ghost use Rattle.bottom.specs.Ledger.{can_make, ground};
+ghost use Rattle.bottom.specs.Ledger.{can_make, ground as without_windows};
 
 use book::Cause;
-use bottom::FormulaBook;
+use bottom::{FormulaBook, Ground};
 use script::{Order, Pile};
 
-// A book that can be made: its pile, the number of its links and their cycle.
+// A book that can be made: its pile, and what it is made of.
 #[derive(Clone, Copy)]
 pub struct Opening {
     pub pile: Pile,
-    pub links: u32,
-    pub cycle: u32,
-    ghost can: { can_make links cycle ≡ Ok tt },
+    pub ground: Ground,
+    ghost can: { can_make ground.links ground.cycle ≡ Ok tt },
 }
 
 impl Opening {
@@ -23,12 +22,12 @@ impl Opening {
     ghost use Rattle.bookrun.specs.Scripts.{made, opening_reply, opened};
 
     // The book of such a pile, or why it cannot be made.
-    fn new(pile: Pile, links: u32, cycle: u32) -> Result<Opening, Cause>
-        ensures reply { opened_by result ≡ book_reply (can_make links cycle) }
-        ensures opened { option_map ground_of (result_ok result) ≡ made (can_make links cycle) (ground links cycle) }
+    fn new(pile: Pile, ground: Ground) -> Result<Opening, Cause>
+        ensures reply { opened_by result ≡ book_reply (can_make ground.links ground.cycle) }
+        ensures opened { option_map ground_of (result_ok result) ≡ made (can_make ground.links ground.cycle) (without_windows ground.links ground.cycle) }
     {
-        FormulaBook::can_make(links, cycle)?;
-        Ok(Opening { pile, links, cycle })
+        FormulaBook::can_make(ground)?;
+        Ok(Opening { pile, ground })
     }
 
     // The book that an order asks for while there is none, or why it cannot be made; none where it asks for no book.
@@ -37,7 +36,9 @@ impl Opening {
         ensures opened { option_map ground_of (option_and_then result_ok result) ≡ opened order }
     {
         match order {
-            Some(Order::Make { pile, links, cycle }) => Some(Opening::new(pile, links, cycle)),
+            Some(Order::Make { pile, links, cycle }) => {
+                Some(Opening::new(pile, Ground { links, cycle }))
+            }
             _ => None,
         }
     }

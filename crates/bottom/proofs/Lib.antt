@@ -1,4 +1,4 @@
 pub mod Remainders
-pub mod Slots
+pub mod Windows
 pub mod Common
 pub mod Grounds

@@ -2,10 +2,11 @@
 ghost use Rattle.std.specs.Prelude.{◌≡◌, Ok};
 ghost use Rattle.book.specs.Calls.{meets_standing, first_met, holds_standing, held_answer, book_answer};
 ghost use Rattle.book.specs.Sound.{Suits};
-ghost use Rattle.bottom.specs.Ledger.{meaning_of, Kept, can_make, ground};
+ghost use Rattle.bottom.specs.Ledger.{meaning_of, Kept, can_make, ground as without_windows};
 ghost use Rattle.std.proofs.Common.{rules};
 
-use crate::ledger::{Ledger, can_make};
+use crate::ground::Ground;
+use crate::ledger::Ledger;
 use crate::meeting::meets;
 use book::{Book, BookFault, LAST_WINDOW, Span, Window, is_link};
 
@@ -17,19 +18,19 @@ pub struct FormulaBook {
 
 impl FormulaBook {
     // Whether a book with so many links of this cycle can be made.
-    pub fn can_make(links: u32, cycle: u32) -> Result<(), BookFault>
-        ensures { result ≡ can_make links cycle }
+    pub fn can_make(ground: Ground) -> Result<(), BookFault>
+        ensures { result ≡ can_make ground.links ground.cycle }
     {
-        can_make(links, cycle)
+        ground.check()
     }
 
     // The book without windows. It keeps its meaning where it can be made.
-    pub fn new(links: u32, cycle: u32) -> FormulaBook
-        ensures means { meaning_of result.ledger ≡ ground links cycle }
-        ensures kept { can_make links cycle ≡ Ok tt → Kept result.ledger }
+    pub fn new(ground: Ground) -> FormulaBook
+        ensures means { meaning_of result.ledger ≡ without_windows ground.links ground.cycle }
+        ensures kept { can_make ground.links ground.cycle ≡ Ok tt → Kept result.ledger }
     {
         FormulaBook {
-            ledger: Ledger::new(links, cycle),
+            ledger: Ledger::new(ground),
         }
     }
 
@@ -126,10 +127,14 @@ mod tests {
         }
     }
 
+    fn ground(links: u32, cycle: u32) -> Ground {
+        Ground { links, cycle }
+    }
+
     #[test]
     fn the_worked_cases(rt: HostRuntime) {
         for WorkedCase { one, other, first } in worked_cases() {
-            let mut book = FormulaBook::new(1, 12);
+            let mut book = FormulaBook::new(ground(1, 12));
             assert_eq!(rt; book.book(1, one), Ok(()));
             let clash = Err(BookFault::Clash {
                 window: 2,
@@ -148,17 +153,20 @@ mod tests {
     #[test]
     fn what_can_be_made(rt: HostRuntime) {
         let most = u32::MAX;
-        assert_eq!(rt; FormulaBook::can_make(0, 1), Ok(()));
-        assert_eq!(rt; FormulaBook::can_make(32, 1_000_000), Ok(()));
+        assert_eq!(rt; FormulaBook::can_make(ground(0, 1)), Ok(()));
+        assert_eq!(rt; FormulaBook::can_make(ground(32, 1_000_000)), Ok(()));
         for (links, cycle) in [(33, 1), (1, 0), (1, 1_000_001), (most, most)] {
-            assert_eq!(rt; FormulaBook::can_make(links, cycle), Err(BookFault::Absent));
+            assert_eq!(rt;
+                FormulaBook::can_make(ground(links, cycle)),
+                Err(BookFault::Absent)
+            );
         }
     }
 
     // A window for each step of a cycle of 256, and no room for another.
     #[test]
     fn every_number(rt: HostRuntime) {
-        let mut book = FormulaBook::new(32, 256);
+        let mut book = FormulaBook::new(ground(32, 256));
         for number in 1..=LAST_WINDOW {
             assert_eq!(rt; book.book(number, window(32, number - 1, 1, 256)), Ok(()));
         }
@@ -176,7 +184,7 @@ mod tests {
     // Periods whose common divisor is 1 meet, however long the cycle.
     #[test]
     fn long_periods(rt: HostRuntime) {
-        let mut book = FormulaBook::new(1, 1_000_000);
+        let mut book = FormulaBook::new(ground(1, 1_000_000));
         assert_eq!(rt; book.book(1, window(1, 0, 1, 15_625)), Ok(()));
         let clash = Err(BookFault::Clash {
             window: 2,

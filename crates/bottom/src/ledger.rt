@@ -3,43 +3,30 @@ ghost use Rattle.std.specs.Prelude.{◌≡◌, true, Ok};
 ghost use Rattle.book.specs.Calls.{unfit as unfit_in, lift_answer, lift_after, find_answer, span_answer};
 ghost use Rattle.book.specs.Meaning.{numbered, with as changed_at};
 ghost use Rattle.book.specs.Steps.{Steps};
-ghost use Rattle.bottom.specs.Ledger.{meaning_of, Kept, can_make, ground};
+ghost use Rattle.bottom.specs.Ledger.{meaning_of, Kept, can_make, ground as without_windows};
 
-use crate::table::Table;
-use book::{BookFault, LAST_LINK, Span, Window, is_window};
+use crate::ground::Ground;
+use book::{BookFault, LAST_WINDOW, Numbered, Span, Window, is_window};
 
-// The longest cycle, in steps.
-const LONGEST: u32 = 1_000_000;
+// How many numbers windows may have.
+const WINDOWS: usize = LAST_WINDOW as usize;
 
-// Links 1 to `links`, each with this cycle, and their windows.
+// The links of a book, and their windows by their numbers.
 #[derive(Drop)]
 pub struct Ledger {
-    links: u32,
-    cycle: u32,
-    table: Table,
-}
-
-// Whether there can be a ledger with so many links of this cycle.
-pub fn can_make(links: u32, cycle: u32) -> Result<(), BookFault>
-    ensures { result ≡ can_make links cycle }
-{
-    if links <= LAST_LINK && (1..=LONGEST).contains(&cycle) {
-        Ok(())
-    } else {
-        Err(BookFault::Absent)
-    }
+    ground: Ground,
+    windows: Numbered<Option<Window>, WINDOWS>,
 }
 
 impl Ledger {
     // A ledger without windows.
-    pub fn new(links: u32, cycle: u32) -> Ledger
-        ensures means { meaning_of result ≡ ground links cycle }
-        ensures kept { can_make links cycle ≡ Ok tt → Kept result }
+    pub fn new(ground: Ground) -> Ledger
+        ensures means { meaning_of result ≡ without_windows ground.links ground.cycle }
+        ensures kept { can_make ground.links ground.cycle ≡ Ok tt → Kept result }
     {
         Ledger {
-            links,
-            cycle,
-            table: Table::empty(),
+            ground,
+            windows: Numbered::all(None),
         }
     }
 
@@ -47,9 +34,9 @@ impl Ledger {
     pub fn span(&self, link: u32) -> Span
         ensures { Kept self.now → result ≡ span_answer link (meaning_of self.now) }
     {
-        if (1..=self.links).contains(&link) {
+        if (1..=self.ground.links).contains(&link) {
             Span {
-                cycle: self.cycle,
+                cycle: self.ground.cycle,
                 rest: 0,
             }
         } else {
@@ -62,7 +49,7 @@ impl Ledger {
         ensures answer { result ≡ find_answer number (meaning_of self.now) }
         ensures stands { result ≡ (meaning_of self.now).windows number }
     {
-        self.table.window(number)
+        self.windows.at(number).flatten()
     }
 
     // Why the window cannot stand under the number, whatever the other windows are.
@@ -71,7 +58,7 @@ impl Ledger {
     {
         let span = self.span(window.link);
         window.check(number, span)?;
-        if self.table.window(number).is_some() {
+        if self.find(number).is_some() {
             return Err(BookFault::Standing { window: number });
         }
         Ok(())
@@ -80,9 +67,9 @@ impl Ledger {
     // Puts a window or none under the number, where there is such a number.
     pub fn set(&mut self, number: u32, slot: Option<Window>)
         ensures means { numbered number ≡ true → meaning_of self.new ≡ changed_at number slot (meaning_of self.old) }
-        ensures links { self.new.links ≡ self.old.links }
+        ensures ground { self.new.ground ≡ self.old.ground }
     {
-        self.table.set(number, slot);
+        self.windows.set(number, slot);
     }
 
     // Takes the number's window out and answers it.
@@ -93,8 +80,7 @@ impl Ledger {
             return Err(BookFault::Absent);
         }
         let window = self
-            .table
-            .window(number)
+            .find(number)
             .ok_or(BookFault::NothingThere { window: number })?;
         self.set(number, None);
         Ok(window)

@@ -11,14 +11,9 @@ mod timed;
 use std::io;
 use std::io::Read;
 
-// Answers standard input on standard output.
-fn run(rt: &HostRuntime) -> io::Result<()> {
+fn main(rt: HostRuntime) -> io::Result<()> {
     let heap = rt.alloc();
     let mut input = Vec::new(heap);
     rt.stdin().read_to_end(&mut input)?;
     rt.print(answer::answer(heap, input.as_slice())?)
-}
-
-fn main(rt: HostRuntime) -> io::Result<()> {
-    run(&rt)
 }

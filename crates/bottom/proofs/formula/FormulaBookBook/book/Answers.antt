@@ -21,6 +21,6 @@ pub returns : goal.returns
 returns c =
     let l = c.args.self.now.ledger in
     record {
-      steps = λ kept. booked l c.set.new.self c.args.number c.args.window (c.in_ok-decide.ensures kept) c.set.ensures.means c.set.ensures.links kept;
+      steps = λ kept. booked l c.set.new.self c.args.number c.args.window (c.in_ok-decide.ensures kept) c.set.ensures.means c.set.ensures.ground kept;
       clash = λ kept. clash_exactly (meaning_of l) c.args.number c.args.window _ kept.sound (c.in_ok-decide.ensures kept);
     }

@@ -12,8 +12,8 @@ returns-in_err-check c = λ kept.
 
 pub returns-then-is_some : goal.returns-then-is_some
 returns-then-is_some c = λ kept.
-    unfit_late (meaning_of c.args.self.now) c.args.number c.args.window c.span-span.result _ (c.span-span.ensures kept) c.in_ok-check.ensures (c.if-is_some.ensures ∙ ap is_some c.window.ensures)
+    unfit_late (meaning_of c.args.self.now) c.args.number c.args.window c.span-span.result _ (c.span-span.ensures kept) c.in_ok-check.ensures (c.if-is_some.ensures ∙ ap is_some c.find.ensures.stands)
 
 pub returns : goal.returns
 returns c = λ kept.
-    unfit_late (meaning_of c.args.self.now) c.args.number c.args.window c.span-span.result _ (c.span-span.ensures kept) c.in_ok-check.ensures (c.if-is_some.ensures ∙ ap is_some c.window.ensures)
+    unfit_late (meaning_of c.args.self.now) c.args.number c.args.window c.span-span.result _ (c.span-span.ensures kept) c.in_ok-check.ensures (c.if-is_some.ensures ∙ ap is_some c.find.ensures.stands)
