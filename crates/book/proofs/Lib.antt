@@ -2,6 +2,7 @@ pub mod Times
 pub mod Unbounded
 pub mod Lowest
 pub mod Scans
+pub mod Finding
 pub mod Clashing
 pub mod Fitting
 pub mod Keeping

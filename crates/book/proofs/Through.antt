@@ -1,19 +1,19 @@
 -- A book that is kept in another one: each window is handed to the book below in another form.
-use Rattle.std.proofs.Common.{◌≡◌, ℕ, ◌≤◌, Bool, true, false, cond, not, eqb, is_some, Some, None, Ok, Err, Option, Result, sym, refl, ap, ◌∙◌, subst, arith}
+use Rattle.std.proofs.Common.{◌≡◌, ℕ, ◌^◌, ◌<◌, ◌≤◌, Bool, true, false, cond, not, eqb, is_some, Some, None, Ok, Err, Option, Result, sym, refl, ap, ◌∙◌, subst, arith}
 use Rattle.std.proofs.lemmas.Bool.Decides.{Decides-like, same_from_decides}
 use Rattle.std.specs.Option.{option_map}
 use Rattle.std.specs.Result.{result_and}
 use Rattle.book.specs.declared.fault.BookFault.{BookFault}
 use Rattle.book.specs.declared.fault.BookFault.TheVariants.{Absent}
 use Rattle.book.specs.declared.window.Window.{Window}
-use Rattle.book.specs.Calls.{meets_standing, first_met, unfit, unmet, book_answer, book_after, changed, standing, lift_answer, lift_after, find_answer, held_answer}
+use Rattle.book.specs.Calls.{meets_standing, first_met, misfit, unfit, unmet, book_answer, book_after, changed, standing, lift_answer, lift_after, find_answer, held_answer, span_answer}
 use Rattle.book.specs.Holding.{Holds, Meet}
 use Rattle.book.specs.Lowest.{lowest}
 use Rattle.book.specs.Meaning.{Meaning, numbered, replaced, with}
 use Rattle.book.specs.Sound.{Stands, EachStanding, Suits, Proper, Sound, WouldMeet}
 use Rattle.book.specs.Steps.{Did}
 use Rattle.book.proofs.Clashing.{meets_standing_lem}
-use Rattle.book.proofs.Fitting.{free, unfit_proper}
+use Rattle.book.proofs.Fitting.{free, unfit_proper, fitting, period_short}
 use Rattle.book.proofs.Holders.{held_like}
 use Rattle.book.proofs.Keeping.{stands_with}
 
@@ -141,11 +141,11 @@ through_lift up m₀ m n is = go (numbered n) ∙ ap (λ o. cond (not (numbered 
     go false = refl
 
 -- what stands under one number is replaced above as below
-pub replaced_through : (up : Window → Window) (n : ℕ) (o o₀ : Option Window) (windows : ℕ → Option Window) → option_map up o₀ ≡ o → (k : ℕ) → option_map up (replaced n o₀ windows k) ≡ replaced n o (λ j. option_map up (windows j)) k
-replaced_through up n o o₀ windows is k = go (eqb k n)
+pub replaced_through : (up : Window → Window) (n : ℕ) (o : Option Window) (windows : ℕ → Option Window) (k : ℕ) → option_map up (replaced n o windows k) ≡ replaced n (option_map up o) (λ j. option_map up (windows j)) k
+replaced_through up n o windows k = go (eqb k n)
   where
-    go : (v : Bool) → option_map up (cond v o₀ (windows k)) ≡ cond v o (option_map up (windows k))
-    go true = is
+    go : (v : Bool) → option_map up (cond v o (windows k)) ≡ cond v (option_map up o) (option_map up (windows k))
+    go true = refl
     go false = refl
 
 -- one window more or less is one of P too
@@ -156,28 +156,33 @@ pub each_without : (m : Meaning) (n : ℕ) (P : Window → Type 0) → EachStand
 each_without m n P each k w stands = stands_with m n None k w (P w) stands (λ _ is. absurd (let z : ◌≡◌ {A = ℕ} 0 1 = cc in omega arith)) (λ _ was. each k w was)
 
 -- what a call on the book below does to the book above, which means what above says of the one below as long as this is Tied
-module _ {up down : Window → Window} (above : Meaning → Meaning) (Tied : Meaning → Type 0) (m₀ m₀' : Meaning) (t : Through up down m₀ (above m₀)) (tied : Tied m₀) (K : Type 0) (n : ℕ) where
-  pub booked_through : (w x : Window) (r : Result (Unit {0}) BookFault) → Proper (above m₀) n w → x ≡ down w → above (with n (Some (down w)) m₀) ≡ with n (Some w) (above m₀) → Tied (with n (Some (down w)) m₀) → Did r (book_answer n x m₀) m₀' (book_after n x m₀) K → Did r (book_answer n w (above m₀)) (above m₀') (book_after n w (above m₀)) (K × Tied m₀')
-  booked_through w x r proper low sees stays called =
+module _ {up down : Window → Window} (above : Meaning → Meaning) (Tied : Meaning → Type 0) (m₀ m₀' : Meaning) (t : Through up down m₀ (above m₀)) (tied : Tied m₀) (K : Type 0) (n : ℕ) (sees : (o : Option Window) → above (with n o m₀) ≡ with n (option_map up o) (above m₀)) where
+  -- a window that passes the test of the book above is small enough to be handed down, and the book below books it
+  pub booked_through : (w x : Window) (span : ℕ × ℕ) (r : Result (Unit {0}) BookFault) → span ≡ span_answer w.link (above m₀) → Ok tt ≡ misfit n w span.0 span.1 → ((down w).start < 2 ^ 32 → (down w).length < 2 ^ 32 → (down w).period < 2 ^ 32 → x ≡ down w) → (Suits (above m₀) w → Tied (with n (Some (down w)) m₀)) → Did r (book_answer n x m₀) m₀' (book_after n x m₀) K → Did r (book_answer n w (above m₀)) (above m₀') (book_after n w (above m₀)) (K × Tied m₀')
+  booked_through w x span r is passed low stays called =
+      let proper = fitting (above m₀) n w span is (sym passed) in
+      let (below, same_window) = t.below w proper.suits in
+      let short = period_short m₀ t.inner (down w) below in
+      let ends = below.form.ends in
       let At : Window → Type 0 = λ y. Did r (book_answer n y m₀) m₀' (book_after n y m₀) K in
-      let did = subst At low called in
+      let did = subst At (low (omega arith) (omega arith) (omega arith)) called in
       let same = through_answer t n w proper in
       record {
         answer = did.answer ∙ same;
-        after = ap above did.after ∙ go (book_answer n (down w) m₀) ∙ ap (λ a. changed a (with n (Some w) (above m₀)) (above m₀)) same;
-        kept = (did.kept, subst Tied (sym did.after) (keeps (book_answer n (down w) m₀)));
+        after = ap above did.after ∙ go (sees (Some (down w)) ∙ ap (λ v. with n (Some v) (above m₀)) same_window) (book_answer n (down w) m₀) ∙ ap (λ a. changed a (with n (Some w) (above m₀)) (above m₀)) same;
+        kept = (did.kept, subst Tied (sym did.after) (keeps (stays proper.suits) (book_answer n (down w) m₀)));
       }
     where
-      go : (a : Result (Unit {0}) BookFault) → above (changed a (with n (Some (down w)) m₀) m₀) ≡ changed a (with n (Some w) (above m₀)) (above m₀)
-      go (Ok x) = sees
-      go (Err e) = refl
+      go : above (with n (Some (down w)) m₀) ≡ with n (Some w) (above m₀) → (a : Result (Unit {0}) BookFault) → above (changed a (with n (Some (down w)) m₀) m₀) ≡ changed a (with n (Some w) (above m₀)) (above m₀)
+      go seen (Ok x) = seen
+      go seen (Err e) = refl
 
-      keeps : (a : Result (Unit {0}) BookFault) → Tied (changed a (with n (Some (down w)) m₀) m₀)
-      keeps (Ok x) = stays
-      keeps (Err e) = tied
+      keeps : Tied (with n (Some (down w)) m₀) → (a : Result (Unit {0}) BookFault) → Tied (changed a (with n (Some (down w)) m₀) m₀)
+      keeps more (Ok x) = more
+      keeps more (Err e) = tied
 
-  pub lifted_through : (r r₀ : Result Window BookFault) → r ≡ on_ok up r₀ → above (with n None m₀) ≡ with n None (above m₀) → Tied (with n None m₀) → Did r₀ (lift_answer n m₀) m₀' (lift_after n m₀) K → Did r (lift_answer n (above m₀)) (above m₀') (lift_after n (above m₀)) (K × Tied m₀')
-  lifted_through r r₀ is sees stays did =
+  pub lifted_through : (r r₀ : Result Window BookFault) → r ≡ on_ok up r₀ → Tied (with n None m₀) → Did r₀ (lift_answer n m₀) m₀' (lift_after n m₀) K → Did r (lift_answer n (above m₀)) (above m₀') (lift_after n (above m₀)) (K × Tied m₀')
+  lifted_through r r₀ is stays did =
       let same = through_lift up m₀ (above m₀) n (t.windows n) in
       record {
         answer = is ∙ ap (on_ok up) did.answer ∙ same;
@@ -186,7 +191,7 @@ module _ {up down : Window → Window} (above : Meaning → Meaning) (Tied : Mea
       }
     where
       go : (a : Result Window BookFault) → above (changed a (with n None m₀) m₀) ≡ changed (on_ok up a) (with n None (above m₀)) (above m₀)
-      go (Ok x) = sees
+      go (Ok x) = sees None
       go (Err e) = refl
 
       keeps : (a : Result Window BookFault) → Tied (changed a (with n None m₀) m₀)

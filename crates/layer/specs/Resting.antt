@@ -1,20 +1,18 @@
 -- A rest layer is a book that is kept in the one below.
-use Rattle.std.specs.Prelude.{◌≡◌, ℕ, ◌+◌, ◌-◌, ◌^◌, ◌<◌, ◌≤◌, Bool, true, false, Some, None, Ok, Option, Result, nat_lt, refl}
-use Rattle.std.proofs.Common.{sym, ap, arith}
+use Rattle.std.specs.Prelude.{◌≡◌, ℕ, ◌+◌, ◌-◌, ◌<◌, ◌≤◌, Bool, true, false, Some, None, Ok, Option, nat_lt, refl}
+use Rattle.std.proofs.Common.{ap, arith}
 use Rattle.std.proofs.lemmas.Bool.Decides.{nat_tests}
+use Rattle.std.specs.Option.{option_map}
 use Rattle.std.specs.Result.{result_and}
-use Rattle.book.specs.Calls.{misfit, book_answer, book_after, lift_answer, lift_after, held_answer, span_answer, holds_windows}
+use Rattle.book.specs.Calls.{held_answer, holds_windows}
 use Rattle.book.specs.Form.{GoodForm}
 use Rattle.book.specs.Holding.{Holds}
 use Rattle.book.specs.Meaning.{Meaning, linked, with}
-use Rattle.book.specs.Sound.{Sound}
-use Rattle.book.specs.Steps.{Did}
-use Rattle.book.specs.declared.BookFault.{BookFault}
+use Rattle.book.specs.Sound.{Suits, Sound}
 use Rattle.book.specs.declared.Window.{Window}
-use Rattle.book.proofs.Fitting.{fitting, period_short}
 use Rattle.book.proofs.Lowest.{Found, nowhere, found}
 use Rattle.book.proofs.NoWindows.{none_stands}
-use Rattle.book.proofs.Through.{Through, through_sound, through_held, replaced_through, each_with, each_without, booked_through, lifted_through, on_ok}
+use Rattle.book.proofs.Through.{Through, through_held, replaced_through, each_with, each_without}
 use Rattle.layer.specs.Rests.{longer, shorter, rest_meaning, RestTied, first_over, within, can_make_rest}
 use Rattle.layer.specs.Vacant.{unless}
 
@@ -65,22 +63,16 @@ module _ (extra : ℕ → ℕ) where
     met = λ v w _ _ same (s, (one, other)). (s, (longer_held v w.link (m.rest w.link) s same one, longer_held w w.link (m.rest w.link) s refl other));
   }
 
+  -- what stands under one number is seen in the other form
+  pub rest_replaced : (m : Meaning) (n : ℕ) (o : Option Window) → rest_meaning extra (with n o m) ≡ with n (option_map (shorter extra) o) (rest_meaning extra m)
+  rest_replaced m n o = λ i. record { windows = λ k. replaced_through (shorter extra) n o m.windows k i; cycle = m.cycle; rest = λ l. m.rest l + extra l }
+
   -- one window more or less
-  pub rest_with : (m : Meaning) (n : ℕ) (w : Window) → rest_meaning extra (with n (Some (longer extra w)) m) ≡ with n (Some w) (rest_meaning extra m)
-  rest_with m n w =
-      let same = replaced_through (shorter extra) n (Some w) (Some (longer extra w)) m.windows (ap Some (shorter-longer w)) in
-      λ i. record { windows = λ k. same k i; cycle = m.cycle; rest = λ l. m.rest l + extra l }
+  pub rest_put : (m : Meaning) (n : ℕ) (w : Window) → RestTied extra m → Suits (rest_meaning extra m) w → RestTied extra (with n (Some (longer extra w)) m)
+  rest_put m n w tied suits = record { limits = tied.limits; longer = each_with m n (longer extra w) (λ v. extra v.link < v.length) (omega (arith, suits.form.long)) tied.longer }
 
-  pub rest_without : (m : Meaning) (n : ℕ) → rest_meaning extra (with n None m) ≡ with n None (rest_meaning extra m)
-  rest_without m n =
-      let same = replaced_through (shorter extra) n None None m.windows refl in
-      λ i. record { windows = λ k. same k i; cycle = m.cycle; rest = λ l. m.rest l + extra l }
-
-  pub tied_with : (m : Meaning) (n : ℕ) (w : Window) → 0 < w.length → RestTied extra m → RestTied extra (with n (Some (longer extra w)) m)
-  tied_with m n w long tied = record { limits = tied.limits; longer = each_with m n (longer extra w) (λ v. extra v.link < v.length) (omega arith) tied.longer }
-
-  pub tied_without : (m : Meaning) (n : ℕ) → RestTied extra m → RestTied extra (with n None m)
-  tied_without m n tied = record { limits = tied.limits; longer = each_without m n (λ v. extra v.link < v.length) tied.longer }
+  pub rest_taken : (m : Meaning) (n : ℕ) → RestTied extra m → RestTied extra (with n None m)
+  rest_taken m n tied = record { limits = tied.limits; longer = each_without m n (λ v. extra v.link < v.length) tied.longer }
 
   -- a layer that can be made over a sound book is tied to it
   pub rest_made : (m : Meaning) → Sound m → ((l : ℕ) → linked l ≡ false → extra l ≡ 0) → can_make_rest extra m ≡ Ok tt → RestTied extra m
@@ -105,24 +97,9 @@ module _ (extra : ℕ → ℕ) where
       go None (nowhere none) true some is = absurd (let z : ◌≡◌ {A = ℕ} 0 1 = cc in omega arith)
       go (Some l) at b some is = absurd (let z : ◌≡◌ {A = ℕ} 0 1 = cc in omega arith)
 
-  -- the layer is sound where the book below is
-  pub rest_sound : (m : Meaning) → Sound m → RestTied extra m → Sound (rest_meaning extra m)
-  rest_sound m sound tied = through_sound (rest_through m sound tied)
-
+  -- a step is held as one of the book below
   pub rest_held : (m : Meaning) → Sound m → RestTied extra m → (l s : ℕ) → held_answer l s m ≡ held_answer l s (rest_meaning extra m)
   rest_held m sound tied l s =
       through_held (rest_through m sound tied) l s s
       (λ k v there link held. shorter_held v l (m.rest l) s (tied.longer k v there) link held)
       (λ k v there link held. held_shorter v l (m.rest l) s (tied.longer k v there) link held)
-
-  module _ (m m' : Meaning) (sound : Sound m) (tied : RestTied extra m) (K : Type 0) (n : ℕ) where
-    -- a window that passes the layer's test is the book's below
-    pub rest_booked : (w x : Window) (span : ℕ × ℕ) (r : Result (Unit {0}) BookFault) → span ≡ span_answer w.link (rest_meaning extra m) → Ok tt ≡ misfit n w span.0 span.1 → (w.length + extra w.link < 2 ^ 32 → x ≡ longer extra w) → Did r (book_answer n x m) m' (book_after n x m) K → Did r (book_answer n w (rest_meaning extra m)) (rest_meaning extra m') (book_after n w (rest_meaning extra m)) (K × RestTied extra m')
-    rest_booked w x span r is passed low did =
-        let proper = fitting (rest_meaning extra m) n w span is (sym passed) in
-        let ends = proper.suits.form.ends in
-        let short = period_short (rest_meaning extra m) (rest_sound m sound tied) w proper.suits in
-        booked_through (rest_meaning extra) (RestTied extra) m m' (rest_through m sound tied) tied K n w x r proper (low (omega arith)) (rest_with m n w) (tied_with m n w proper.suits.form.long tied) did
-
-    pub rest_lifted : (r r₀ : Result Window BookFault) → r ≡ on_ok (shorter extra) r₀ → Did r₀ (lift_answer n m) m' (lift_after n m) K → Did r (lift_answer n (rest_meaning extra m)) (rest_meaning extra m') (lift_after n (rest_meaning extra m)) (K × RestTied extra m')
-    rest_lifted r r₀ is did = lifted_through (rest_meaning extra) (RestTied extra) m m' (rest_through m sound tied) tied K n r r₀ is (rest_without m n) (tied_without m n tied) did
