@@ -62,7 +62,7 @@ held_in_cycle m sound l s =
 
 module _ (m : Meaning) (sound : Sound m) (l s : ℕ) where
   -- no two windows hold the step
-  one_holder : (j k : ℕ) → HoldsAt m l s j → HoldsAt m l s k → j ≡ k
+  pub one_holder : (j k : ℕ) → HoldsAt m l s j → HoldsAt m l s k → j ≡ k
   one_holder j k (v, (stands_v, (link_v, held_v))) (w, (stands_w, (link_w, held_w))) = go (eqb j k) refl
     where
       At : Window → ℕ → Type 0

@@ -11,10 +11,8 @@ use Rattle.book.specs.Meaning.{Meaning, linked, present, with}
 use Rattle.book.specs.Sound.{Suits, Sound}
 use Rattle.book.specs.declared.Window.{Window}
 use Rattle.book.proofs.Clashing.{both, cycle_some}
-use Rattle.book.proofs.NoWindows.{none_stands}
 use Rattle.book.proofs.Through.{Through, through_held, replaced_through, each_with, each_without}
 use Rattle.layer.specs.Grains.{rounded_up, coarse_cycle, coarse_rest, finer, coarser, grain_meaning, Whole, GrainTied, can_make_grain}
-use Rattle.layer.specs.Vacant.{unless}
 use Rattle.layer.specs.Rounding.{whole, grain_some, quotient_some, rounded_covers, rounded_within, fine_before, coarse_before}
 
 -- a link that is there in steps of a grain: the grain is not 0, and divides the cycle
@@ -130,17 +128,6 @@ module _ (grain : ℕ → ℕ) where
       (k, (low, coarse_before a w.length r g (t / g) some (omega arith)))
 
   module _ (m : Meaning) where
-    -- the same on link l of a book, whose rest is rounded up
-    fine_at : (w : Window) (l s : ℕ) → w.link ≡ l → Fits (grain l) (m.cycle l) → Holds w ((grain_meaning grain m).rest l) s → Holds (finer grain w) (m.rest l) (s * grain l)
-    fine_at w l s link =
-        let At : ℕ → Type 0 = λ i. Fits (grain i) (m.cycle i) → Holds w ((grain_meaning grain m).rest i) s → Holds (finer grain w) (m.rest i) (s * grain i) in
-        subst At link (λ fits held. let Rest : ℕ → Type 0 = λ r. Holds w r s in held_finer w (m.rest w.link) s fits.some (subst Rest (rest_is (grain w.link) (m.cycle w.link) (m.rest w.link) fits) held))
-
-    coarse_at : (w : Window) (l t : ℕ) → w.link ≡ l → Fits (grain l) (m.cycle l) → Holds (finer grain w) (m.rest l) t → Holds w ((grain_meaning grain m).rest l) (t / grain l)
-    coarse_at w l t link =
-        let At : ℕ → Type 0 = λ i. Fits (grain i) (m.cycle i) → Holds (finer grain w) (m.rest i) t → Holds w ((grain_meaning grain m).rest i) (t / grain i) in
-        subst At link (λ fits held. let Rest : ℕ → Type 0 = λ r. Holds w r (t / grain w.link) in subst Rest (sym (rest_is (grain w.link) (m.cycle w.link) (m.rest w.link) fits)) (finer_held w (m.rest w.link) t fits.some held))
-
     fits_suits : (w : Window) → Suits (grain_meaning grain m) w → Fits (grain w.link) (m.cycle w.link)
     fits_suits w suits = fits_from (grain w.link) (m.cycle w.link) (cycle_some (grain_meaning grain m) w.link suits.link)
 
@@ -194,7 +181,8 @@ module _ (grain : ℕ → ℕ) where
             rounded_within r g r some (omega (arith, mul-one r))
         go false is = omega arith
 
-    pub grain_through : Sound m → GrainTied grain m → Through (coarser grain) (finer grain) m (grain_meaning grain m)
+    -- the book in steps of the grain is kept in the one below, where a step is the first of as many
+    pub grain_through : Sound m → GrainTied grain m → Through (coarser grain) (finer grain) (λ l s. s * grain l) m (grain_meaning grain m)
     grain_through sound tied = record {
       inner = sound;
       cycles = λ l. omega (arith, cycle_within (grain l) (m.cycle l), sound.cycles l);
@@ -203,44 +191,21 @@ module _ (grain : ℕ → ℕ) where
       link = λ w. refl;
       above = λ k v stands. (coarse_suits v (tied k v stands) (sound.proper k v stands).suits, finer-coarser v (tied k v stands));
       below = λ w suits. (fine_suits w suits, coarser-finer w (fits_suits w suits).some);
-      meets = λ v w _ suits same (s, (one, other)). let fits = fits_suits w suits in (s * grain w.link, (fine_at v w.link s same fits one, fine_at w w.link s refl fits other));
-      met = λ v w _ suits same (t, (one, other)). let fits = fits_suits w suits in (t / grain w.link, (coarse_at v w.link t same fits one, coarse_at w w.link t refl fits other));
+      raise = λ l s. s / grain l;
+      raised = λ l s there. mul-div_cancel s (fits_from (grain l) (m.cycle l) (cycle_some (grain_meaning grain m) l there)).some;
+      falls = λ w suits s held. let fits = fits_suits w suits in held_finer w (m.rest w.link) s fits.some (subst (λ r. Holds w r s) (rest_is (grain w.link) (m.cycle w.link) (m.rest w.link) fits) held);
+      rises = λ w suits s held. let fits = fits_suits w suits in subst (λ r. Holds w r (s / grain w.link)) (sym (rest_is (grain w.link) (m.cycle w.link) (m.rest w.link) fits)) (finer_held w (m.rest w.link) s fits.some held);
     }
-
-    -- a step is held by the window that holds the first of its steps below
-    pub grain_held : Sound m → GrainTied grain m → (l s : ℕ) → Fits (grain l) (m.cycle l) → held_answer l (s * grain l) m ≡ held_answer l s (grain_meaning grain m)
-    grain_held sound tied l s fits =
-        through_held (grain_through sound tied) l s (s * grain l)
-        (λ k v there link held.
-        let At : Window → Type 0 = λ x. Holds x (m.rest l) (s * grain l) in
-        subst At (finer-coarser v (tied k v there)) (fine_at (coarser grain v) l s link fits held))
-        (λ k v there link held.
-        let At : Window → Type 0 = λ x. Holds x (m.rest l) (s * grain l) in
-        let Step : ℕ → Type 0 = Holds (coarser grain v) ((grain_meaning grain m).rest l) in
-        subst Step (mul-div_cancel s fits.some) (coarse_at (coarser grain v) l (s * grain l) link fits (subst At (sym (finer-coarser v (tied k v there))) held)))
-
-    -- the same on a link that is there
-    pub grain_step : Sound m → GrainTied grain m → (l s : ℕ) → present (grain_meaning grain m) l ≡ true → held_answer l (s * grain l) m ≡ held_answer l s (grain_meaning grain m)
-    grain_step sound tied l s there = grain_held sound tied l s (fits_from (grain l) (m.cycle l) (cycle_some (grain_meaning grain m) l there))
 
     -- what stands under one number is seen in the other form
     pub grain_replaced : (n : ℕ) (o : Option Window) → grain_meaning grain (with n o m) ≡ with n (option_map (coarser grain) o) (grain_meaning grain m)
     grain_replaced n o = λ i. record { windows = λ k. replaced_through (coarser grain) n o m.windows k i; cycle = (grain_meaning grain m).cycle; rest = (grain_meaning grain m).rest }
 
-    fine_whole : (w : Window) → Whole (grain w.link) (finer grain w)
-    fine_whole w = record { start = mul-mod_left w.start (grain w.link); length = mul-mod_left w.length (grain w.link); period = mul-mod_left w.period (grain w.link) }
-
     -- one window more or less
     pub grain_put : (n : ℕ) (w : Window) → GrainTied grain m → Suits (grain_meaning grain m) w → GrainTied grain (with n (Some (finer grain w)) m)
-    grain_put n w tied suits = each_with m n (finer grain w) (λ v. Whole (grain v.link) v) (fine_whole w) tied
+    grain_put n w tied suits =
+        let g = grain w.link in
+        each_with m n (finer grain w) (λ v. Whole (grain v.link) v) (record { start = mul-mod_left w.start g; length = mul-mod_left w.length g; period = mul-mod_left w.period g }) tied
 
     pub grain_taken : (n : ℕ) → GrainTied grain m → GrainTied grain (with n None m)
     grain_taken n tied = each_without m n (λ v. Whole (grain v.link) v) tied
-
-    -- a layer that can be made over a sound book is tied to it
-    pub grain_made : Sound m → can_make_grain m ≡ Ok tt → GrainTied grain m
-    grain_made sound can = go (holds_windows m) refl can
-      where
-        go : (b : Bool) → holds_windows m ≡ b → unless b ≡ Ok tt → GrainTied grain m
-        go false empty is = λ k w stands. absurd (let free = none_stands m sound empty k in let z : ◌≡◌ {A = ℕ} 0 1 = cc in omega arith)
-        go true some is = absurd (let z : ◌≡◌ {A = ℕ} 0 1 = cc in omega arith)

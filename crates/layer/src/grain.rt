@@ -2,7 +2,7 @@
 ghost use Rattle.std.specs.Prelude.{◌≡◌, ◌*◌, ◌/◌, Ok};
 ghost use Rattle.layer.specs.Links.{value_at};
 ghost use Rattle.layer.specs.Grains.{coarse_cycle, coarse_rest, finer, coarser, grain_meaning, GrainTied, can_make_grain};
-ghost use Rattle.layer.specs.Graining.{grain_through, grain_step, grain_replaced, grain_put, grain_taken};
+ghost use Rattle.layer.specs.Graining.{grain_through, grain_replaced, grain_put, grain_taken};
 
 use crate::layer::{Layer, vacant};
 use crate::per_link::PerLink;
@@ -60,8 +60,6 @@ impl View for Grain {
     ghost tied = { λ x. GrainTied (value_at x.grain) };
 
     ghost through = { λ x. grain_through (value_at x.grain) };
-
-    ghost held = { λ x. grain_step (value_at x.grain) };
 
     ghost replaced = { λ x. grain_replaced (value_at x.grain) };
 

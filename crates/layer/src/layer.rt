@@ -37,13 +37,11 @@ impl<B: Book, V: View> Book for Layer<B, V> {
     }
 
     fn lift(&mut self, number: u32) -> Result<Window, BookFault> {
-        let window = self.below.lift(number)?;
-        Ok(self.view.up(window))
+        self.below.lift(number).map(|window| self.view.up(window))
     }
 
     fn find(&self, number: u32) -> Option<Window> {
-        let window = self.below.find(number)?;
-        Some(self.view.up(window))
+        self.below.find(number).map(|window| self.view.up(window))
     }
 
     // A link's steps are held alike in every cycle, so the place in the cycle is asked for below.

@@ -3,7 +3,7 @@ ghost use Rattle.std.specs.Prelude.{◌≡◌, ◌+◌, true, Ok, nat_lt};
 ghost use Rattle.book.specs.Meaning.{linked};
 ghost use Rattle.layer.specs.Links.{value_at};
 ghost use Rattle.layer.specs.Rests.{longer, shorter, rest_meaning, RestTied, first_over, can_make_rest};
-ghost use Rattle.layer.specs.Resting.{rest_through, rest_held, rest_replaced, rest_put, rest_taken};
+ghost use Rattle.layer.specs.Resting.{rest_through, rest_replaced, rest_put, rest_taken};
 
 use crate::layer::{Layer, vacant};
 use crate::per_link::PerLink;
@@ -72,8 +72,6 @@ impl View for Extra {
     ghost tied = { λ x. RestTied (value_at x.extra) };
 
     ghost through = { λ x. rest_through (value_at x.extra) };
-
-    ghost held = { λ x m sound tied l s there. rest_held (value_at x.extra) m sound tied l s };
 
     ghost replaced = { λ x. rest_replaced (value_at x.extra) };
 

@@ -1,8 +1,8 @@
 // How the windows of a book appear in a book over it.
-ghost use Rattle.std.specs.Prelude.{◌≡◌, ℕ, ◌^◌, ◌<◌, true, Some, None};
+ghost use Rattle.std.specs.Prelude.{◌≡◌, ℕ, ◌^◌, ◌<◌, Some, None};
 ghost use Rattle.std.specs.Option.{option_map};
-ghost use Rattle.book.specs.Calls.{held_answer, span_answer};
-ghost use Rattle.book.specs.Meaning.{Meaning, present, with};
+ghost use Rattle.book.specs.Calls.{span_answer};
+ghost use Rattle.book.specs.Meaning.{Meaning, with};
 ghost use Rattle.book.specs.Sound.{Sound, Suits};
 ghost use Rattle.book.proofs.Through.{Through};
 ghost use Rattle.book.specs.declared.Window.{Window};
@@ -42,10 +42,7 @@ pub trait View {
         ensures { (m : Meaning) → tied self.now m → span ≡ span_answer link m → result ≡ span_answer link (above self.now m) };
 
     // The book above is one that is kept in the book below.
-    ghost through: { (x : Self) (m : Meaning) → Sound m → tied x m → Through (up x) (down x) m (above x m) };
-
-    // A step of a link that is there is held by the number that holds the step below.
-    ghost held: { (x : Self) (m : Meaning) → Sound m → tied x m → (l s : ℕ) → present (above x m) l ≡ true → held_answer l (step_below x l s) m ≡ held_answer l s (above x m) };
+    ghost through: { (x : Self) (m : Meaning) → Sound m → tied x m → Through (up x) (down x) (step_below x) m (above x m) };
 
     // What stands under a number is seen through the view whatever it is.
     ghost replaced: { (x : Self) (m : Meaning) (n : ℕ) (o : _) → above x (with n o m) ≡ with n (option_map (up x) o) (above x m) };

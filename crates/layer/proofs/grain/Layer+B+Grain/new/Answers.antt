@@ -1,5 +1,5 @@
 use Rattle.layer.specs.Links.{value_at}
-use Rattle.layer.specs.Graining.{grain_made}
+use Rattle.layer.proofs.Made.{grain_made}
 use Rattle.layer.proofs.grain.Layer+B+Grain.new.Goals as goal
 
 pub returns-clause-kept : goal.returns-clause-kept

@@ -1,6 +1,6 @@
 use Rattle.layer.specs.Links.{value_at}
 use Rattle.layer.proofs.Alike.{none_outside}
-use Rattle.layer.specs.Resting.{rest_made}
+use Rattle.layer.proofs.Made.{rest_made}
 use Rattle.layer.proofs.rest.Layer+B+Extra.new.Goals as goal
 
 pub returns-clause-kept : goal.returns-clause-kept
