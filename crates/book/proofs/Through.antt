@@ -1,20 +1,19 @@
 -- A book that is kept in another one: each window is handed to the book below in another form.
-use Rattle.std.proofs.Common.{◌≡◌, ℕ, ◌^◌, ◌<◌, ◌≤◌, Bool, true, false, cond, not, eqb, is_some, Some, None, Ok, Err, Option, Result, sym, refl, ap, ◌∙◌, subst, arith}
+use Rattle.std.proofs.Common.{◌≡◌, ℕ, ◌^◌, ◌%◌, ◌<◌, ◌≤◌, Bool, true, false, cond, eqb, is_some, Some, None, Ok, Err, Option, Result, sym, refl, ap, ◌∙◌, subst, arith}
 use Rattle.std.proofs.lemmas.Bool.Decides.{Decides-like, same_from_decides}
 use Rattle.std.specs.Option.{option_map}
 use Rattle.std.specs.Result.{result_and}
 use Rattle.book.specs.declared.fault.BookFault.{BookFault}
-use Rattle.book.specs.declared.fault.BookFault.TheVariants.{Absent}
 use Rattle.book.specs.declared.window.Window.{Window}
-use Rattle.book.specs.Calls.{meets_standing, first_met, misfit, unfit, unmet, book_answer, book_after, changed, standing, lift_answer, lift_after, find_answer, held_answer, span_answer}
+use Rattle.book.specs.Calls.{meets_standing, first_met, misfit, unfit, unmet, book_answer, book_after, changed, held_answer, span_answer}
 use Rattle.book.specs.Holding.{Holds, Meet}
 use Rattle.book.specs.Lowest.{lowest}
-use Rattle.book.specs.Meaning.{Meaning, numbered, present, replaced, with}
+use Rattle.book.specs.Meaning.{Meaning, present, replaced, with}
 use Rattle.book.specs.Sound.{Stands, EachStanding, Suits, Proper, Sound, WouldMeet, HoldsAt}
 use Rattle.book.specs.Steps.{Did}
 use Rattle.book.proofs.Clashing.{meets_standing_lem}
 use Rattle.book.proofs.Fitting.{free, unfit_proper, fitting, period_short}
-use Rattle.book.proofs.Holders.{held_like, one_holder}
+use Rattle.book.proofs.Holders.{held_like, one_holder, placed_held}
 use Rattle.book.proofs.Keeping.{stands_with}
 
 -- m is kept in m₀: its windows are those of m₀ by up, a window that suits m is kept as down says, and a step of a link is held
@@ -105,11 +104,16 @@ module _ {up down : Window → Window} {lower : ℕ → ℕ → ℕ} {m₀ m : M
       λ i. result_and (fits i) (unmet n (through_met w proper.suits i))
 
   -- a step of a link that is there is held as one of the book below
-  pub through_held : (l s : ℕ) → present m l ≡ true → held_answer l (lower l s) m₀ ≡ held_answer l s m
+  through_held : (l s : ℕ) → present m l ≡ true → held_answer l (lower l s) m₀ ≡ held_answer l s m
   through_held l s on =
       held_like m₀ m l (lower l s) s
       (λ k held. subst (λ i. HoldsAt m l i k) (t.raised l s on) (held_above l (lower l s) k held))
       (held_below l s)
+
+  -- so the book below, asked for the place of the step in the cycle of the link, gives the answer
+  pub held_through : (l s below : ℕ) (span : ℕ × ℕ) (r : Option ℕ) → span ≡ span_answer l m → 0 < span.0 → below ≡ lower l (s % span.0) → r ≡ held_answer l below m₀ → r ≡ held_answer l s m
+  held_through l s below span r is some place asked =
+      placed_held m through_sound l s span r is some (λ there. asked ∙ ap (λ x. held_answer l x m₀) place ∙ through_held l (s % span.0) there)
 
 -- what stands under one number is replaced above as below
 pub replaced_through : (up : Window → Window) (n : ℕ) (o : Option Window) (windows : ℕ → Option Window) (k : ℕ) → option_map up (replaced n o windows k) ≡ replaced n (option_map up o) (λ j. option_map up (windows j)) k

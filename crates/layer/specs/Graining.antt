@@ -1,18 +1,17 @@
 -- A grain layer is a book that is kept in the one below.
-use Rattle.std.specs.Prelude.{◌≡◌, ℕ, ◌+◌, ◌-◌, ◌*◌, ◌/◌, ◌%◌, ◌<◌, ◌≤◌, Bool, true, false, cond, ◌&&◌, ltb, Some, None, Ok, Option, ◌==◌, nat_lt, refl}
+use Rattle.std.specs.Prelude.{◌≡◌, ℕ, ◌+◌, ◌-◌, ◌*◌, ◌/◌, ◌%◌, ◌<◌, ◌≤◌, Bool, true, false, cond, ◌&&◌, ltb, Some, None, Option, ◌==◌, nat_lt, refl}
 use Rattle.std.proofs.Common.{sym, ap, subst, ◌∙◌, add-mul, mul_assoc, mul-pos, mul-one, mul-le-mul_left, mul-le-mul_right, le_of_mul-le-mul_right, mul-div_cancel, div-mul-le_self, div-le_self, le-div_iff_mul-le, arith}
 use Rattle.std.proofs.Math.Nat.{mul-mod_left}
 use Rattle.std.proofs.lemmas.Bool.Decides.{nat_tests}
 use Rattle.std.specs.Option.{option_map}
-use Rattle.book.specs.Calls.{held_answer, holds_windows}
 use Rattle.book.specs.Form.{GoodForm}
 use Rattle.book.specs.Holding.{Holds}
-use Rattle.book.specs.Meaning.{Meaning, linked, present, with}
+use Rattle.book.specs.Meaning.{Meaning, linked, with}
 use Rattle.book.specs.Sound.{Suits, Sound}
 use Rattle.book.specs.declared.Window.{Window}
 use Rattle.book.proofs.Clashing.{both, cycle_some}
-use Rattle.book.proofs.Through.{Through, through_held, replaced_through, each_with, each_without}
-use Rattle.layer.specs.Grains.{rounded_up, coarse_cycle, coarse_rest, finer, coarser, grain_meaning, Whole, GrainTied, can_make_grain}
+use Rattle.book.proofs.Through.{Through, replaced_through, each_with, each_without}
+use Rattle.layer.specs.Grains.{rounded_up, coarse_cycle, coarse_rest, finer, coarser, grain_meaning, Whole, GrainTied}
 use Rattle.layer.specs.Rounding.{whole, grain_some, quotient_some, rounded_covers, rounded_within, fine_before, coarse_before}
 
 -- a link that is there in steps of a grain: the grain is not 0, and divides the cycle

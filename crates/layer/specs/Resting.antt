@@ -1,17 +1,13 @@
 -- A rest layer is a book that is kept in the one below.
-use Rattle.std.specs.Prelude.{◌≡◌, ℕ, ◌+◌, ◌-◌, ◌<◌, ◌≤◌, Bool, true, false, Some, None, Ok, Option, nat_lt, refl}
-use Rattle.std.proofs.Common.{ap, arith}
-use Rattle.std.proofs.lemmas.Bool.Decides.{nat_tests}
+use Rattle.std.specs.Prelude.{◌≡◌, ℕ, ◌+◌, ◌-◌, ◌<◌, Some, None, Option, refl}
+use Rattle.std.proofs.Common.{arith}
 use Rattle.std.specs.Option.{option_map}
-use Rattle.std.specs.Result.{result_and}
-use Rattle.book.specs.Calls.{held_answer, holds_windows}
 use Rattle.book.specs.Form.{GoodForm}
-use Rattle.book.specs.Holding.{Holds}
-use Rattle.book.specs.Meaning.{Meaning, linked, with}
+use Rattle.book.specs.Meaning.{Meaning, with}
 use Rattle.book.specs.Sound.{Suits, Sound}
 use Rattle.book.specs.declared.Window.{Window}
-use Rattle.book.proofs.Through.{Through, through_held, replaced_through, each_with, each_without}
-use Rattle.layer.specs.Rests.{longer, shorter, rest_meaning, RestTied, first_over, within, can_make_rest}
+use Rattle.book.proofs.Through.{Through, replaced_through, each_with, each_without}
+use Rattle.layer.specs.Rests.{longer, shorter, rest_meaning, RestTied}
 
 module _ (extra : ℕ → ℕ) where
   -- a window without the extra that it was given, and a window with the extra that was taken from it

@@ -1,11 +1,11 @@
 // How the windows of a book appear in a book over it.
-ghost use Rattle.std.specs.Prelude.{◌≡◌, ℕ, ◌^◌, ◌<◌, Some, None};
+ghost use Rattle.std.specs.Prelude.{◌≡◌, ℕ, ◌^◌, ◌<◌, Some, None, Option};
 ghost use Rattle.std.specs.Option.{option_map};
 ghost use Rattle.book.specs.Calls.{span_answer};
 ghost use Rattle.book.specs.Meaning.{Meaning, with};
 ghost use Rattle.book.specs.Sound.{Sound, Suits};
-ghost use Rattle.book.proofs.Through.{Through};
 ghost use Rattle.book.specs.declared.Window.{Window};
+ghost use Rattle.book.proofs.Through.{Through};
 
 use book::Window;
 
@@ -45,7 +45,7 @@ pub trait View {
     ghost through: { (x : Self) (m : Meaning) → Sound m → tied x m → Through (up x) (down x) (step_below x) m (above x m) };
 
     // What stands under a number is seen through the view whatever it is.
-    ghost replaced: { (x : Self) (m : Meaning) (n : ℕ) (o : _) → above x (with n o m) ≡ with n (option_map (up x) o) (above x m) };
+    ghost replaced: { (x : Self) (m : Meaning) (n : ℕ) (o : Option Window) → above x (with n o m) ≡ with n (option_map (up x) o) (above x m) };
 
     // The book below stays tied when a window that suits the book above is handed down.
     ghost put: { (x : Self) (m : Meaning) (n : ℕ) (w : Window) → tied x m → Suits (above x m) w → tied x (with n (Some (down x w)) m) };
