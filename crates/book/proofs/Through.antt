@@ -111,9 +111,9 @@ module _ {up down : Window → Window} {lower : ℕ → ℕ → ℕ} {m₀ m : M
       (held_below l s)
 
   -- so the book below, asked for the place of the step in the cycle of the link, gives the answer
-  pub held_through : (l s below : ℕ) (span : ℕ × ℕ) (r : Option ℕ) → span ≡ span_answer l m → 0 < span.0 → below ≡ lower l (s % span.0) → r ≡ held_answer l below m₀ → r ≡ held_answer l s m
-  held_through l s below span r is some place asked =
-      placed_held m through_sound l s span r is some (λ there. asked ∙ ap (λ x. held_answer l x m₀) place ∙ through_held l (s % span.0) there)
+  pub held_through : (l s place below : ℕ) (span : ℕ × ℕ) (r : Option ℕ) → span ≡ span_answer l m → 0 < span.0 → place ≡ s % span.0 → below ≡ lower l place → r ≡ held_answer l below m₀ → r ≡ held_answer l s m
+  held_through l s place below span r is some at step asked =
+      placed_held m through_sound l s span r is some (λ there. asked ∙ ap (λ x. held_answer l x m₀) (step ∙ ap (lower l) at) ∙ through_held l (s % span.0) there)
 
 -- what stands under one number is replaced above as below
 pub replaced_through : (up : Window → Window) (n : ℕ) (o : Option Window) (windows : ℕ → Option Window) (k : ℕ) → option_map up (replaced n o windows k) ≡ replaced n (option_map up o) (λ j. option_map up (windows j)) k

@@ -1,4 +1,4 @@
-use Rattle.std.proofs.Common.{◌≡◌, ◌%◌, ◌<◌, ◌^◌, sym, ap, ◌∙◌, mod-lt, arith}
+use Rattle.std.proofs.Common.{◌≡◌, ◌%◌, ◌<◌, ◌^◌, sym, ap, ◌∙◌, mod-lt, arith, rules}
 use Rattle.book.specs.Calls.{held_answer}
 use Rattle.book.proofs.Holders.{held_exactly, absent_held}
 use Rattle.book.proofs.Through.{through_sound, held_through}
@@ -24,8 +24,8 @@ returns g c =
     let through = λ (kept : g.B.Book.keeps below × g.V.View.tied view m). g.met.V.View.through view m (g.met.B.Book.sound below kept.0) kept.1 in
     let cycle = c.span-cycle.result.0 in
     let some : 0 < cycle = omega (arith, c.from.ensures, c.in_ok-place.ensures.0) in
-    let place : c.in_ok-place.place ≡ c.args.step % cycle = c.in_ok-place.ensures.1 ∙ ap (λ x. c.args.step % x) c.from.ensures in
+    let place : c.in_ok-place.place ≡ c.args.step % cycle = search rules in
     let small : c.in_ok-place.place < 2 ^ 32 = omega (arith, place, mod-lt c.args.step some, c.span-cycle.type_inv) in
     let is : g.B.Book.keeps below × g.V.View.tied view m → c.held.result ≡ held_answer c.args.link c.args.step above = λ kept.
-    held_through (through kept) c.args.link c.args.step c.step_below.result c.span-cycle.result c.held.result (c.span-cycle.ensures kept) some (c.step_below.ensures small ∙ ap (g.V.View.step_below view c.args.link) place) (c.held.ensures.answer kept.0) in
+    held_through (through kept) c.args.link c.args.step c.in_ok-place.place c.step_below.result c.span-cycle.result c.held.result (c.span-cycle.ensures kept) some place (c.step_below.ensures small) (c.held.ensures.answer kept.0) in
     record { answer = is; exact = λ kept. held_exactly above (through_sound (through kept)) c.args.link c.args.step c.held.result (is kept) }
