@@ -1,7 +1,7 @@
 // The layer whose steps are several steps of the book below.
-ghost use Rattle.std.specs.Prelude.{◌≡◌, ◌*◌, ◌/◌, Ok};
+ghost use Rattle.std.specs.Prelude.{◌≡◌, ◌*◌, Ok};
 ghost use Rattle.layer.specs.Links.{value_at};
-ghost use Rattle.layer.specs.Grains.{coarse_cycle, coarse_rest, finer, coarser, grain_meaning, GrainTied, can_make_grain};
+ghost use Rattle.layer.specs.Grains.{finer, coarser, grain_meaning, GrainTied, can_make_grain};
 ghost use Rattle.layer.specs.Graining.{grain_through, grain_replaced, grain_put, grain_taken};
 
 use crate::layer::{Layer, vacant};
@@ -15,18 +15,8 @@ pub struct Grain {
     grain: PerLink,
 }
 
-// A book over another one: a step of each link is as many steps below as the link's grain.
+// A book over another one, with a grain for each link.
 pub type GrainLayer<B> = Layer<B, Grain>;
-
-// A cycle and a rest in steps of a grain, 0 and 0 where the grain does not fit the cycle.
-fn coarse_span(cycle: u32, rest: u32, grain: u32) -> (u32, u32)
-    ensures { result ≡ (coarse_cycle grain cycle, coarse_rest grain cycle rest) }
-{
-    if grain == 0 || cycle == 0 || cycle % grain != 0 {
-        return (0, 0);
-    }
-    (cycle / grain, rest.div_ceil(grain))
-}
 
 impl<B: Book> Layer<B, Grain> {
     // Whether the layer can be made over the book.
@@ -38,8 +28,8 @@ impl<B: Book> Layer<B, Grain> {
 
     // The layer over the book. It keeps its meaning where it can be made over a book that keeps its own.
     pub fn new(below: B, grain: PerLink) -> GrainLayer<B>
-        ensures means { grain_meaning (value_at result.view.grain) (B.Book.meaning result.below) ≡ grain_meaning (value_at grain) (B.Book.meaning below) }
-        ensures kept { B.Book.keeps below → can_make_grain (B.Book.meaning below) ≡ Ok tt → B.Book.keeps result.below × GrainTied (value_at result.view.grain) (B.Book.meaning result.below) }
+        ensures means { ⟦<GrainLayer<B> as Book>⟧.meaning result ≡ grain_meaning (value_at grain) (B.Book.meaning below) }
+        ensures kept { B.Book.keeps below → can_make_grain (B.Book.meaning below) ≡ Ok tt → ⟦<GrainLayer<B> as Book>⟧.keeps result }
     {
         Layer {
             below,
@@ -93,6 +83,10 @@ impl View for Grain {
 
     fn span(&self, link: u32, span: (u32, u32)) -> (u32, u32) {
         let (cycle, rest) = span;
-        coarse_span(cycle, rest, self.grain.at(link))
+        let grain = self.grain.at(link);
+        if grain == 0 || cycle == 0 || cycle % grain != 0 {
+            return (0, 0);
+        }
+        (cycle / grain, rest.div_ceil(grain))
     }
 }

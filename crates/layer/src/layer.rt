@@ -6,7 +6,7 @@ ghost use Rattle.layer.specs.Vacancy.{vacant};
 use crate::view::View;
 use book::{Book, BookFault, MakeFault, Window, holds_windows};
 
-// The windows of the book below, as the view shows them.
+// A book whose windows are those of the book below, as the view shows them.
 #[derive(Drop)]
 pub struct Layer<B, V> {
     pub(crate) below: B,

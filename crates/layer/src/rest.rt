@@ -1,6 +1,5 @@
 // The layer that holds a link longer after each window.
-ghost use Rattle.std.specs.Prelude.{◌≡◌, ◌+◌, true, Ok, nat_lt};
-ghost use Rattle.book.specs.Meaning.{linked};
+ghost use Rattle.std.specs.Prelude.{◌≡◌, Ok};
 ghost use Rattle.layer.specs.Links.{value_at};
 ghost use Rattle.layer.specs.Rests.{longer, shorter, rest_meaning, RestTied, first_over, can_make_rest};
 ghost use Rattle.layer.specs.Resting.{rest_through, rest_replaced, rest_put, rest_taken};
@@ -19,22 +18,17 @@ pub struct Extra {
     extra: PerLink,
 }
 
-// A book over another one: the rest of each link is the one below and an extra.
+// A book over another one, with an extra rest for each link.
 pub type RestLayer<B> = Layer<B, Extra>;
-
-// Whether the rest of the link would be too great.
-fn is_over<B: Book>(below: &B, extra: &PerLink, link: u32) -> bool
-    ensures { B.Book.keeps below.now → linked link ≡ true → result ≡ nat_lt 1000000 ((B.Book.meaning below.now).rest link + value_at extra.now link) }
-{
-    let (_, rest) = below.span(link);
-    u64::from(rest) + u64::from(extra.at(link)) > GREATEST
-}
 
 // The first link whose rest would be too great.
 fn first_over<B: Book>(below: &B, extra: &PerLink) -> Option<u32>
     ensures { B.Book.keeps below.now → result ≡ first_over (value_at extra.now) (B.Book.meaning below.now) }
 {
-    (1..=LAST_LINK).find(|&link| is_over(below, extra, link))
+    (1..=LAST_LINK).find(|&link| {
+        let (_, rest) = below.span(link);
+        u64::from(rest) + u64::from(extra.at(link)) > GREATEST
+    })
 }
 
 impl<B: Book> Layer<B, Extra> {
@@ -50,8 +44,8 @@ impl<B: Book> Layer<B, Extra> {
 
     // The layer over the book. It keeps its meaning where it can be made over a book that keeps its own.
     pub fn new(below: B, extra: PerLink) -> RestLayer<B>
-        ensures means { rest_meaning (value_at result.view.extra) (B.Book.meaning result.below) ≡ rest_meaning (value_at extra) (B.Book.meaning below) }
-        ensures kept { B.Book.keeps below → can_make_rest (value_at extra) (B.Book.meaning below) ≡ Ok tt → B.Book.keeps result.below × RestTied (value_at result.view.extra) (B.Book.meaning result.below) }
+        ensures means { ⟦<RestLayer<B> as Book>⟧.meaning result ≡ rest_meaning (value_at extra) (B.Book.meaning below) }
+        ensures kept { B.Book.keeps below → can_make_rest (value_at extra) (B.Book.meaning below) ≡ Ok tt → ⟦<RestLayer<B> as Book>⟧.keeps result }
     {
         Layer {
             below,

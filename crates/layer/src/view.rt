@@ -22,7 +22,7 @@ pub trait View {
     // What the book above means, by what the book below means.
     ghost above: { Self → Meaning → Meaning };
 
-    // The book below has only windows that are handed to it by this view.
+    // What has to hold of the book below: it has only windows that this view can have handed down to it.
     ghost tied: { Self → Meaning → Type 0 };
 
     // The window as the book below has it, where its numbers are not too great for a window.
