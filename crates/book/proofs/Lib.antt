@@ -1,8 +1,8 @@
 pub mod Times
 pub mod Unbounded
 pub mod Lowest
+pub mod Searches
 pub mod Scans
-pub mod Finding
 pub mod Clashing
 pub mod Fitting
 pub mod Keeping

@@ -1,6 +1,7 @@
 -- A refusal is passed on whole, and changes nothing.
 use Rattle.std.proofs.Common.{◌≡◌, ℕ, Some, Err, Result, sym, ap, ◌∙◌}
 use Rattle.std.specs.Result.{result_and}
+use Rattle.book.specs.declared.span.Span.{Span}
 use Rattle.book.specs.declared.fault.BookFault.{BookFault}
 use Rattle.book.specs.declared.window.Window.{Window}
 use Rattle.book.specs.Calls.{misfit, first_met, unfit, unmet, book_answer, book_after, span_answer, changed}
@@ -24,7 +25,7 @@ module _ (m : Meaning) (n : ℕ) (w : Window) where
   refused K r e err is kept = record { answer = is; after = ap (λ x. changed x (with n (Some w) m) m) (sym err ∙ is); kept = kept }
 
   -- a window that fails the test by the span of its link is refused so, and nothing else is said or done
-  pub refused_early : (Kept : Type 0) (span : ℕ × ℕ) (r : Result (Unit {0}) BookFault) (y e : BookFault) → (Kept → Sound m) → (Kept → span ≡ span_answer w.link m) → r ≡ Err y → y ≡ e → Err e ≡ misfit n w span.0 span.1 → (Kept → Did r (book_answer n w m) m (book_after n w m) Kept) × (Kept → ClashExactly m n w r)
+  pub refused_early : (Kept : Type 0) (span : Span) (r : Result (Unit {0}) BookFault) (y e : BookFault) → (Kept → Sound m) → (Kept → span ≡ span_answer w.link m) → r ≡ Err y → y ≡ e → Err e ≡ misfit n w span.cycle span.rest → (Kept → Did r (book_answer n w m) m (book_after n w m) Kept) × (Kept → ClashExactly m n w r)
   refused_early Kept span r y e sound spans err same fails =
       ((λ kept. refused Kept r y err (is kept) kept), (λ kept. clash_exactly m n w r (sound kept) (is kept)))
     where

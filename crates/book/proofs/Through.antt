@@ -4,6 +4,7 @@ use Rattle.std.proofs.lemmas.Bool.Decides.{Decides-like, same_from_decides}
 use Rattle.std.specs.Option.{option_map}
 use Rattle.std.specs.Result.{result_and}
 use Rattle.book.specs.declared.fault.BookFault.{BookFault}
+use Rattle.book.specs.declared.span.Span.{Span}
 use Rattle.book.specs.declared.window.Window.{Window}
 use Rattle.book.specs.Calls.{meets_standing, first_met, misfit, unfit, unmet, book_answer, book_after, changed, held_answer, span_answer}
 use Rattle.book.specs.Holding.{Holds, Meet}
@@ -111,9 +112,9 @@ module _ {up down : Window → Window} {lower : ℕ → ℕ → ℕ} {m₀ m : M
       (held_below l s)
 
   -- so the book below, asked for the place of the step in the cycle of the link, gives the answer
-  pub held_through : (l s place below : ℕ) (span : ℕ × ℕ) (r : Option ℕ) → span ≡ span_answer l m → 0 < span.0 → place ≡ s % span.0 → below ≡ lower l place → r ≡ held_answer l below m₀ → r ≡ held_answer l s m
+  pub held_through : (l s place below : ℕ) (span : Span) (r : Option ℕ) → span ≡ span_answer l m → 0 < span.cycle → place ≡ s % span.cycle → below ≡ lower l place → r ≡ held_answer l below m₀ → r ≡ held_answer l s m
   held_through l s place below span r is some at step asked =
-      placed_held m through_sound l s span r is some (λ there. asked ∙ ap (λ x. held_answer l x m₀) (step ∙ ap (lower l) at) ∙ through_held l (s % span.0) there)
+      placed_held m through_sound l s span r is some (λ there. asked ∙ ap (λ x. held_answer l x m₀) (step ∙ ap (lower l) at) ∙ through_held l (s % span.cycle) there)
 
 -- what stands under one number is replaced above as below
 pub replaced_through : (up : Window → Window) (n : ℕ) (o : Option Window) (windows : ℕ → Option Window) (k : ℕ) → option_map up (replaced n o windows k) ≡ replaced n (option_map up o) (λ j. option_map up (windows j)) k
@@ -133,7 +134,7 @@ each_without m n P each k w stands = stands_with m n None k w (P w) stands (λ _
 -- what a call on the book below does to the book above, which means what above says of the one below as long as this is Tied
 module _ {up down : Window → Window} {lower : ℕ → ℕ → ℕ} (above : Meaning → Meaning) (Tied : Meaning → Type 0) (m₀ m₀' : Meaning) (t : Through up down lower m₀ (above m₀)) (tied : Tied m₀) (K : Type 0) (n : ℕ) (sees : (o : Option Window) → above (with n o m₀) ≡ with n (option_map up o) (above m₀)) where
   -- a window that passes the test of the book above is small enough to be handed down, and the book below books it
-  pub booked_through : (w x : Window) (span : ℕ × ℕ) (r : Result (Unit {0}) BookFault) → span ≡ span_answer w.link (above m₀) → Ok tt ≡ misfit n w span.0 span.1 → ((down w).start < 2 ^ 32 → (down w).length < 2 ^ 32 → (down w).period < 2 ^ 32 → x ≡ down w) → (Suits (above m₀) w → Tied (with n (Some (down w)) m₀)) → Did r (book_answer n x m₀) m₀' (book_after n x m₀) K → Did r (book_answer n w (above m₀)) (above m₀') (book_after n w (above m₀)) (K × Tied m₀')
+  pub booked_through : (w x : Window) (span : Span) (r : Result (Unit {0}) BookFault) → span ≡ span_answer w.link (above m₀) → Ok tt ≡ misfit n w span.cycle span.rest → ((down w).start < 2 ^ 32 → (down w).length < 2 ^ 32 → (down w).period < 2 ^ 32 → x ≡ down w) → (Suits (above m₀) w → Tied (with n (Some (down w)) m₀)) → Did r (book_answer n x m₀) m₀' (book_after n x m₀) K → Did r (book_answer n w (above m₀)) (above m₀') (book_after n w (above m₀)) (K × Tied m₀')
   booked_through w x span r is passed low stays called =
       let proper = fitting (above m₀) n w span is (sym passed) in
       let (below, same_window) = t.below w proper.suits in

@@ -3,6 +3,7 @@ use Rattle.std.specs.Prelude.{ℕ, Bool, false, cond, not, ◌&&◌, is_some, So
 use Rattle.std.specs.Result.{result_and}
 use Rattle.book.specs.declared.fault.BookFault.{BookFault}
 use Rattle.book.specs.declared.fault.BookFault.TheVariants.{Absent, BadForm, Standing, Clash, NothingThere}
+use Rattle.book.specs.declared.span.Span.{Span}
 use Rattle.book.specs.declared.window.Window.{Window}
 use Rattle.book.specs.Form.{well_formed}
 use Rattle.book.specs.Holding.{holds, meets}
@@ -73,9 +74,9 @@ holds_standing m l s (Some w) = w.link == l && holds w (m.rest l) s
 abbrev pub held_answer : ℕ → ℕ → Meaning → Option ℕ
 held_answer l s m = cond (linked l) (lowest (λ k. holds_standing m l s (m.windows k)) 1 256) None
 
--- span: cycle and rest of a link
-abbrev pub span_answer : ℕ → Meaning → ℕ × ℕ
-span_answer l m = cond (linked l) (m.cycle l, m.rest l) (0, 0)
+-- span: cycle and rest of a link, 0 and 0 where there is no such link
+abbrev pub span_answer : ℕ → Meaning → Span
+span_answer l m = cond (linked l) (record { cycle = m.cycle l; rest = m.rest l }) (record { cycle = 0; rest = 0 })
 
 -- whether some number has a window
 abbrev pub holds_windows : Meaning → Bool

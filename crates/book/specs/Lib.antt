@@ -8,3 +8,4 @@ pub mod Calls
 pub mod Sound
 pub mod Steps
 pub mod Cases
+pub mod Numbered

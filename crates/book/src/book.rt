@@ -6,6 +6,7 @@ ghost use Rattle.book.specs.Sound.{Sound, ClashExactly, HeldExactly};
 ghost use Rattle.book.specs.Steps.{Steps};
 
 use crate::fault::BookFault;
+use crate::span::Span;
 use crate::window::Window;
 
 // Windows by their numbers, 1 to 256, on links 1 to 32.
@@ -35,7 +36,7 @@ pub trait Book {
         ensures exact { keeps self.now → HeldExactly (meaning self.now) link step result };
 
     // The cycle and the rest of the link, 0 and 0 where there is no such link.
-    fn span(&self, link: u32) -> (u32, u32)
+    fn span(&self, link: u32) -> Span
         ensures { keeps self.now → result ≡ span_answer link (meaning self.now) };
 
     // No two windows of a book ever hold one step of a link.

@@ -6,7 +6,7 @@ ghost use Rattle.book.specs.Cases.{worked_cases, FirstMeeting};
 use crate::window::Window;
 
 // Two windows of one link without rest, and the first step that both hold, none where they never meet.
-#[derive(Clone, Copy)]
+#[derive(Clone, Copy, Debug, PartialEq, Eq)]
 pub struct WorkedCase {
     pub one: Window,
     pub other: Window,

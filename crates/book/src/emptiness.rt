@@ -11,10 +11,5 @@ pub fn holds_windows<B: Book>(book: &B) -> bool
     ensures value { B.Book.keeps book.now → result ≡ holds_windows (B.Book.meaning book.now) }
     ensures exact { B.Book.keeps book.now → Decides result (SomeStands (B.Book.meaning book.now)) }
 {
-    for number in 1..=LAST_WINDOW {
-        if book.find(number).is_some() {
-            return true;
-        }
-    }
-    false
+    (1..=LAST_WINDOW).any(|number| book.find(number).is_some())
 }

@@ -17,19 +17,19 @@ pub enum BookFault {
 }
 
 // A refusal as it is reported: the number of its cause and two values.
-#[derive(Clone, Copy)]
+#[derive(Clone, Copy, Debug, PartialEq, Eq)]
 pub struct Cause {
     pub number: u32,
     pub a: u32,
     pub b: u32,
 }
 
-impl BookFault {
-    // The number and the two values under which the refusal is reported.
-    pub fn cause(self) -> Cause
-        ensures { result ≡ cause_of self }
-    {
-        let (number, a, b) = match self {
+// The number and the two values under which the refusal is reported.
+impl From<BookFault> for Cause {
+    ghost from_gives = { λ fault cause. cause ≡ cause_of fault };
+
+    fn from(fault: BookFault) -> Cause {
+        let (number, a, b) = match fault {
             BookFault::Absent => (9, 0, 0),
             BookFault::BadForm { window, rest } => (10, window, rest),
             BookFault::Standing { window } => (11, window, 0),
@@ -52,12 +52,12 @@ pub enum MakeFault {
     OutOfRange,
 }
 
-impl MakeFault {
-    // The number and the two values under which the refusal is reported.
-    pub fn cause(self) -> Cause
-        ensures { result ≡ make_cause self }
-    {
-        let (number, a) = match self {
+// The number and the two values under which the refusal is reported.
+impl From<MakeFault> for Cause {
+    ghost from_gives = { λ fault cause. cause ≡ make_cause fault };
+
+    fn from(fault: MakeFault) -> Cause {
+        let (number, a) = match fault {
             MakeFault::ShortMemory => (1, 0),
             MakeFault::RestTooGreat { link } => (6, link),
             MakeFault::HoldsWindows => (7, 0),

@@ -12,12 +12,12 @@ pub const LAST_LINK: u32 = 32;
 pub fn is_window(number: u32) -> bool
     ensures { result ≡ numbered number }
 {
-    1 <= number && number <= LAST_WINDOW
+    (1..=LAST_WINDOW).contains(&number)
 }
 
 // Whether a link may have the number.
 pub fn is_link(number: u32) -> bool
     ensures { result ≡ linked number }
 {
-    1 <= number && number <= LAST_LINK
+    (1..=LAST_LINK).contains(&number)
 }

@@ -1,11 +1,12 @@
 // A window: the steps of a link that are kept for one use, again and again.
-ghost use Rattle.std.specs.Prelude.{◌≡◌, ◌%◌, Decides};
+ghost use Rattle.std.specs.Prelude.{◌≡◌, Decides};
 ghost use Rattle.book.specs.Holding.{holds, Holds};
 ghost use Rattle.book.specs.Calls.{misfit};
 ghost use Rattle.book.specs.Form.{well_formed, GoodForm};
 
 use crate::fault::BookFault;
 use crate::range::is_window;
+use crate::span::Span;
 
 // `length` steps of `link` from step `start`, and the same again every `period` steps.
 #[derive(Clone, Copy, Debug, PartialEq, Eq)]
@@ -14,17 +15,6 @@ pub struct Window {
     pub start: u32,
     pub length: u32,
     pub period: u32,
-}
-
-// What `n` leaves by `period`; all of it where the period is 0 and nothing comes again.
-fn remainder(n: u64, period: u32) -> u64
-    ensures { result ≡ n % period }
-{
-    if period == 0 {
-        n
-    } else {
-        n % u64::from(period)
-    }
 }
 
 impl Window {
@@ -36,32 +26,34 @@ impl Window {
         let Some(since) = step.checked_sub(u64::from(self.start)) else {
             return false;
         };
-        remainder(since, self.period) < u64::from(self.length) + u64::from(rest)
+        // A window with no period comes only once.
+        let past = since.checked_rem(u64::from(self.period)).unwrap_or(since);
+        past < u64::from(self.length) + u64::from(rest)
     }
 
-    // Whether a link with this cycle and this rest may have the window.
-    pub fn is_well_formed(self, cycle: u32, rest: u32) -> bool
-        ensures value { result ≡ well_formed cycle rest self }
-        ensures form { Decides result (GoodForm cycle rest self) }
+    // Whether a link with this span may have the window.
+    pub fn is_well_formed(self, span: Span) -> bool
+        ensures value { result ≡ well_formed span.cycle span.rest self }
+        ensures form { Decides result (GoodForm span.cycle span.rest self) }
     {
-        let end = u64::from(self.start) + u64::from(self.length) + u64::from(rest);
+        let end = u64::from(self.start) + u64::from(self.length) + u64::from(span.rest);
         self.length > 0
             && self.period > 0
-            && cycle % self.period == 0
+            && span.cycle % self.period == 0
             && end <= u64::from(self.period)
     }
 
-    // Whether the window may have the number on a link with this cycle and this rest, whatever windows there are.
-    pub fn check(self, number: u32, cycle: u32, rest: u32) -> Result<(), BookFault>
-        ensures { result ≡ misfit number self cycle rest }
+    // Whether the window may have the number on a link with this span, whatever windows there are.
+    pub fn check(self, number: u32, span: Span) -> Result<(), BookFault>
+        ensures { result ≡ misfit number self span.cycle span.rest }
     {
-        if !is_window(number) || cycle == 0 {
+        if !is_window(number) || span.cycle == 0 {
             return Err(BookFault::Absent);
         }
-        if !self.is_well_formed(cycle, rest) {
+        if !self.is_well_formed(span) {
             return Err(BookFault::BadForm {
                 window: number,
-                rest,
+                rest: span.rest,
             });
         }
         Ok(())
@@ -79,6 +71,10 @@ mod tests {
             length,
             period,
         }
+    }
+
+    fn span(cycle: u32, rest: u32) -> Span {
+        Span { cycle, rest }
     }
 
     // Steps 3 and 4 of every ten, and with a rest of 2 also 5 and 6.
@@ -106,13 +102,16 @@ mod tests {
     #[test]
     fn forms(rt: HostRuntime) {
         let most = u32::MAX;
-        assert_eq!(rt; window(0, 1, 4).is_well_formed(24, 0), true);
-        assert_eq!(rt; window(3, 1, 4).is_well_formed(24, 0), true);
-        assert_eq!(rt; window(3, 1, 4).is_well_formed(24, 1), false);
-        assert_eq!(rt; window(0, 0, 4).is_well_formed(24, 0), false);
-        assert_eq!(rt; window(0, 1, 0).is_well_formed(24, 0), false);
-        assert_eq!(rt; window(0, 1, 5).is_well_formed(24, 0), false);
-        assert_eq!(rt; window(most, most, most).is_well_formed(most, most), false);
-        assert_eq!(rt; window(0, most, most).is_well_formed(most, 0), true);
+        assert_eq!(rt; window(0, 1, 4).is_well_formed(span(24, 0)), true);
+        assert_eq!(rt; window(3, 1, 4).is_well_formed(span(24, 0)), true);
+        assert_eq!(rt; window(3, 1, 4).is_well_formed(span(24, 1)), false);
+        assert_eq!(rt; window(0, 0, 4).is_well_formed(span(24, 0)), false);
+        assert_eq!(rt; window(0, 1, 0).is_well_formed(span(24, 0)), false);
+        assert_eq!(rt; window(0, 1, 5).is_well_formed(span(24, 0)), false);
+        assert_eq!(rt;
+            window(most, most, most).is_well_formed(span(most, most)),
+            false
+        );
+        assert_eq!(rt; window(0, most, most).is_well_formed(span(most, 0)), true);
     }
 }

@@ -4,6 +4,7 @@ use Rattle.book.specs.Calls.{book_answer, book_after, lift_answer, lift_after, f
 use Rattle.book.specs.Meaning.{Meaning}
 use Rattle.book.specs.Steps.{Did}
 use Rattle.book.specs.declared.BookFault.{BookFault}
+use Rattle.book.specs.declared.Span.{Span}
 use Rattle.book.specs.declared.Window.{Window}
 use Rattle.script.specs.declared.Call.{Call}
 use Rattle.script.specs.declared.Call.TheVariants as call
@@ -27,6 +28,6 @@ module _ (m : Meaning) (K : Type 0) (c : Call) (r : Reply) where
   unfolding reply after
   held_replied l s t a is same replies answer kept = record { answer = replies ∙ ap held_reply (answer ∙ ap (λ x. held_answer l x m) same) ∙ sym (ap (λ x. reply x m) is); after = sym (ap (λ x. after x m) is); kept = kept }
 
-  pub span_replied : (l : ℕ) (a : ℕ × ℕ) → c ≡ call.Span l → r ≡ span_reply a → a ≡ span_answer l m → K → Did r (reply c m) m (after c m) K
+  pub span_replied : (l : ℕ) (a : Span) → c ≡ call.Span l → r ≡ span_reply a → a ≡ span_answer l m → K → Did r (reply c m) m (after c m) K
   unfolding reply after
   span_replied l a is replies answer kept = record { answer = replies ∙ ap span_reply answer ∙ sym (ap (λ x. reply x m) is); after = sym (ap (λ x. after x m) is); kept = kept }

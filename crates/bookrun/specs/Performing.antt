@@ -4,6 +4,7 @@ use Rattle.book.specs.Calls.{book_answer, book_after, lift_answer, lift_after, f
 use Rattle.book.specs.Causes.{cause_of}
 use Rattle.book.specs.Meaning.{Meaning}
 use Rattle.book.specs.declared.BookFault.{BookFault}
+use Rattle.book.specs.declared.Span as link
 use Rattle.book.specs.declared.Window.{Window}
 use Rattle.script.specs.declared.Call.{Call}
 use Rattle.script.specs.declared.Call.TheVariants as call
@@ -26,8 +27,8 @@ abbrev pub held_reply : Option ℕ → Reply
 held_reply None = Nothing
 held_reply (Some n) = Holds n
 
-abbrev pub span_reply : ℕ × ℕ → Reply
-span_reply s = Span s.0 s.1
+abbrev pub span_reply : link.Span → Reply
+span_reply s = Span s.cycle s.rest
 
 -- the reply to a call on a book that means m
 unfoldable pub reply : Call → Meaning → Reply

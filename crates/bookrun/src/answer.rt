@@ -12,7 +12,7 @@ use crate::perform::respond;
 use crate::reply::{Answered, Reply};
 use crate::tally::Tally;
 use book::Book;
-use bottom::FormulaBook;
+use bottom::{FormulaBook, Ground};
 use script::{Pile, read_line};
 use std::alloc::Global;
 use std::fmt;
@@ -133,7 +133,10 @@ fn run_on(out: &mut String, opening: Opening, from: Progress) -> Result<Tally, f
 {
     match opening.pile {
         Pile::Formula => {
-            let mut book = FormulaBook::new(opening.links, opening.cycle);
+            let mut book = FormulaBook::new(Ground {
+                links: opening.links,
+                cycle: opening.cycle,
+            });
             run(out, &mut book, from)
         }
     }

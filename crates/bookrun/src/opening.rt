@@ -7,7 +7,7 @@ ghost use Rattle.bookrun.specs.Scripts.{opening_reply, opened};
 
 use crate::perform::book_reply;
 use crate::reply::Reply;
-use bottom::FormulaBook;
+use bottom::{FormulaBook, Ground};
 use script::{Order, Pile};
 
 // A book that can be made: its pile, the number of its links and their cycle.
@@ -27,7 +27,7 @@ pub fn open(order: Option<Order>) -> (Option<Reply>, Option<Opening>)
     let Some(Order::Make { pile, links, cycle }) = order else {
         return (None, None);
     };
-    let answer = FormulaBook::can_make(links, cycle);
+    let answer = FormulaBook::can_make(Ground { links, cycle });
     let opening = match answer {
         Ok(()) => Some(Opening { pile, links, cycle }),
         Err(_) => None,

@@ -5,7 +5,7 @@ ghost use Rattle.bookrun.specs.Scripts.{call_reply, called};
 ghost use Rattle.bookrun.specs.Performing.{reply as reply_of, after as meaning_after, book_reply, lift_reply, find_reply, held_reply};
 
 use crate::reply::Reply;
-use book::{Book, BookFault, Window};
+use book::{Book, BookFault, Span, Window};
 use script::{Call, Order};
 
 // The reply to book.
@@ -14,7 +14,7 @@ pub fn book_reply(answer: Result<(), BookFault>) -> Reply
 {
     match answer {
         Ok(()) => Reply::Done,
-        Err(fault) => Reply::Refused(fault.cause()),
+        Err(fault) => Reply::Refused(fault.into()),
     }
 }
 
@@ -24,7 +24,7 @@ fn lift_reply(answer: Result<Window, BookFault>) -> Reply
 {
     match answer {
         Ok(window) => Reply::Stands(window),
-        Err(fault) => Reply::Refused(fault.cause()),
+        Err(fault) => Reply::Refused(fault.into()),
     }
 }
 
@@ -58,7 +58,7 @@ pub fn perform<B: Book>(book: &mut B, call: Call) -> Reply
         Call::Find { number } => find_reply(book.find(number)),
         Call::Held { link, step } => held_reply(book.held(link, u64::from(step))),
         Call::Span { link } => {
-            let (cycle, rest) = book.span(link);
+            let Span { cycle, rest } = book.span(link);
             Reply::Span { cycle, rest }
         }
     }

@@ -1,21 +1,18 @@
 -- What becomes of a ledger.
-use Rattle.std.proofs.Common.{◌≡◌, ℕ, ◌≤◌, Bool, true, false, cond, not, ◌&&◌, ltb, is_some, Some, None, Ok, Err, Option, Result, sym, refl, ap, ◌∙◌, subst, arith}
+use Rattle.std.proofs.Common.{◌≡◌, ℕ, ◌≤◌, true, cond, not, Some, None, Ok, Err, Option, sym, ap, ◌∙◌, subst, arith}
 use Rattle.std.proofs.lemmas.Bool.Decides.{nat_tests}
 use Rattle.std.specs.Result.{result_and}
-use Rattle.book.specs.Calls.{unfit, unmet, first_met, book_answer, book_after, changed, lift_answer, lift_after, standing, span_answer}
-use Rattle.book.specs.Form.{well_formed}
-use Rattle.book.specs.Meaning.{Meaning, numbered, linked, with}
+use Rattle.book.specs.Calls.{unfit, unmet, first_met, book_answer, book_after, changed, lift_answer, lift_after, standing}
+use Rattle.book.specs.Meaning.{Meaning, numbered, with}
 use Rattle.book.specs.Sound.{Suits, Sound}
 use Rattle.book.specs.Steps.{Did}
-use Rattle.book.specs.declared.BookFault.{BookFault}
-use Rattle.book.specs.declared.BookFault.TheVariants.{Absent, BadForm, Standing}
+use Rattle.book.specs.declared.BookFault.TheVariants.{Absent}
+use Rattle.book.specs.declared.Numbered.{Numbered}
 use Rattle.book.specs.declared.Window.{Window}
 use Rattle.book.proofs.Clashing.{fit, book_fits}
 use Rattle.book.proofs.Keeping.{empty_sound, book_sound, lift_sound}
 use Rattle.bottom.specs.declared.ledger.Ledger.{Ledger}
-use Rattle.bottom.specs.declared.table.Table.{Table}
-use Rattle.bottom.specs.Ledger.{cycle_of, no_rest, meaning_of, Kept, can_make, ground}
-use Rattle.bottom.specs.Table.{windows_of}
+use Rattle.bottom.specs.Ledger.{windows_of, cycle_of, no_rest, meaning_of, Kept, can_make, ground}
 
 -- a book that can be made is sound without windows
 pub ground_sound : (links cycle : ℕ) → can_make links cycle ≡ Ok tt → Sound (ground links cycle)
@@ -23,43 +20,23 @@ ground_sound links cycle can =
     let short : cycle ≤ 1000000 = grind (arith, nat_tests) in
     empty_sound (cycle_of links cycle) no_rest (λ l. grind (arith, nat_tests)) (λ l. omega arith)
 
-module _ (links cycle : ℕ) (t : Table) (none : windows_of t ≡ (λ _. None)) where
-  pub made_means : meaning_of (record { links = links; cycle = cycle; table = t }) ≡ ground links cycle
+module _ (links cycle : ℕ) (w : Numbered (Option Window) 256) (none : windows_of w ≡ (λ _. None)) where
+  pub made_means : meaning_of (record { ground = record { links = links; cycle = cycle }; windows = w }) ≡ ground links cycle
   made_means = λ i. record { windows = none i; cycle = cycle_of links cycle; rest = no_rest }
 
-  pub made_kept : can_make links cycle ≡ Ok tt → Kept (record { links = links; cycle = cycle; table = t })
+  pub made_kept : can_make links cycle ≡ Ok tt → Kept (record { ground = record { links = links; cycle = cycle }; windows = w })
   made_kept can = record { links = grind (arith, nat_tests); sound = subst Sound (sym made_means) (ground_sound links cycle can) }
 
-pub kept_as : (l l' : Ledger) (m : Meaning) → Kept l → l'.links ≡ l.links → meaning_of l' ≡ m → Sound m → Kept l'
-kept_as l l' m kept links is sound = record { links = omega (arith, kept.links); sound = subst Sound (sym is) sound }
+pub kept_as : (l l' : Ledger) (m : Meaning) → Kept l → l'.ground ≡ l.ground → meaning_of l' ≡ m → Sound m → Kept l'
+kept_as l l' m kept ground is sound = record { links = omega (arith, kept.links, ap (λ g. g.links) ground); sound = subst Sound (sym is) sound }
 
 -- one window is taken out
-pub lifted : (l l' : Ledger) (n : ℕ) (w : Window) → numbered n ≡ true → (meaning_of l).windows n ≡ Some w → meaning_of l' ≡ with n None (meaning_of l) → l'.links ≡ l.links → Kept l → Did (Ok w) (lift_answer n (meaning_of l)) (meaning_of l') (lift_after n (meaning_of l)) (Kept l')
+pub lifted : (l l' : Ledger) (n : ℕ) (w : Window) → numbered n ≡ true → (meaning_of l).windows n ≡ Some w → meaning_of l' ≡ with n None (meaning_of l) → l'.ground ≡ l.ground → Kept l → Did (Ok w) (lift_answer n (meaning_of l)) (meaning_of l') (lift_after n (meaning_of l)) (Kept l')
 lifted l l' n w number stands is links kept =
     let m = meaning_of l in
     let answer : lift_answer n m ≡ Ok w = λ i. cond (not (number i)) (Err Absent) (standing n (stands i)) in
     let after : meaning_of l' ≡ lift_after n m = is ∙ sym (ap (λ r. changed r (with n None m) m) answer) in
     record { answer = sym answer; after = after; kept = kept_as l l' (lift_after n m) kept links after (lift_sound m n kept.sound) }
-
--- the tests before a clash, from their values
-abbrev pub tests : Bool → Bool → Bool → ℕ → ℕ → Result (Unit {0}) BookFault
-tests there good taken n rest = cond (not there) (Err Absent) (cond (not good) (Err (BadForm n rest)) (cond taken (Err (Standing n)) (Ok tt)))
-
--- they go by the span of the window's link
-pub unfit_is : (m : Meaning) (n : ℕ) (w : Window) (span : ℕ × ℕ) (there good taken : Bool) → span ≡ span_answer w.link m → (numbered n && ltb 0 span.0) ≡ there → well_formed span.0 span.1 w ≡ good → is_some (m.windows n) ≡ taken → tests there good taken n span.1 ≡ unfit n w m
-unfolding unfit
-unfit_is m n w span there good taken is a b c = sym ((λ i. tests (a i) (b i) (c i) n span.1)) ∙ go (linked w.link) refl is
-  where
-    All : Bool → ℕ × ℕ → Result (Unit {0}) BookFault
-    All v s = tests (numbered n && v) (well_formed s.0 s.1 w) (is_some (m.windows n)) n s.1
-
-    nowhere : (v b t : Bool) (r : ℕ) → tests (v && false) b t n r ≡ Err Absent
-    nowhere true b t r = refl
-    nowhere false b t r = refl
-
-    go : (v : Bool) → linked w.link ≡ v → span ≡ cond v (m.cycle w.link, m.rest w.link) (0, 0) → All (ltb 0 span.0) span ≡ All (v && ltb 0 (m.cycle w.link)) (m.cycle w.link, m.rest w.link)
-    go true there is = ap (λ s. All (ltb 0 s.0) s) is
-    go false absent is = ap (λ s. All (ltb 0 s.0) s) is ∙ nowhere (numbered n) (well_formed 0 0 w) (is_some (m.windows n)) 0 ∙ sym (nowhere (numbered n) (well_formed (m.cycle w.link) (m.rest w.link) w) (is_some (m.windows n)) (m.rest w.link))
 
 -- the answer to book where no earlier cause fits, from the number that is met
 pub decided : (l : Ledger) (n : ℕ) (w : Window) (o : Option ℕ) → Ok tt ≡ unfit n w (meaning_of l) → (Suits (meaning_of l) w → o ≡ first_met (meaning_of l) w) → unmet n o ≡ book_answer n w (meaning_of l)
@@ -68,17 +45,9 @@ decided l n w o fits met =
     λ i. result_and (fits i) (unmet n (first i))
 
 -- one window stands more
-pub booked : (l l' : Ledger) (n : ℕ) (w : Window) → Ok tt ≡ book_answer n w (meaning_of l) → (numbered n ≡ true → meaning_of l' ≡ with n (Some w) (meaning_of l)) → l'.links ≡ l.links → Kept l → Did (Ok tt) (book_answer n w (meaning_of l)) (meaning_of l') (book_after n w (meaning_of l)) (Kept l')
+pub booked : (l l' : Ledger) (n : ℕ) (w : Window) → Ok tt ≡ book_answer n w (meaning_of l) → (numbered n ≡ true → meaning_of l' ≡ with n (Some w) (meaning_of l)) → l'.ground ≡ l.ground → Kept l → Did (Ok tt) (book_answer n w (meaning_of l)) (meaning_of l') (book_after n w (meaning_of l)) (Kept l')
 booked l l' n w is means links kept =
     let m = meaning_of l in
     let fits = fit m n w (book_fits m n w (sym is)) in
     let after : meaning_of l' ≡ book_after n w m = means fits.proper.number ∙ ap (λ r. changed r (with n (Some w) m) m) is in
     record { answer = is; after = after; kept = kept_as l l' (book_after n w m) kept links after (book_sound m n w kept.sound) }
-
--- an error that was passed on is the answer
-pub passed_on : (r a : Result (Unit {0}) BookFault) (y e : BookFault) → r ≡ Err y → y ≡ e → Err e ≡ a → r ≡ a
-passed_on r a y e err same is = err ∙ ap Err same ∙ is
-
--- nothing is changed by a refusal
-pub refused : (l : Ledger) (n : ℕ) (w : Window) (r : Result (Unit {0}) BookFault) (e : BookFault) → r ≡ Err e → r ≡ book_answer n w (meaning_of l) → Kept l → Did r (book_answer n w (meaning_of l)) (meaning_of l) (book_after n w (meaning_of l)) (Kept l)
-refused l n w r e err is kept = let m = meaning_of l in record { answer = is; after = ap (λ x. changed x (with n (Some w) m) m) (sym err ∙ is); kept = kept }

@@ -1,6 +1,4 @@
 pub mod Remainders
-pub mod Slots
+pub mod Windows
 pub mod Common
 pub mod Grounds
-pub mod Scans
-pub mod Standings

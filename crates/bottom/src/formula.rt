@@ -2,13 +2,13 @@
 ghost use Rattle.std.specs.Prelude.{◌≡◌, Ok};
 ghost use Rattle.book.specs.Calls.{meets_standing, first_met, holds_standing, held_answer, book_answer};
 ghost use Rattle.book.specs.Sound.{Suits};
-ghost use Rattle.bottom.specs.Ledger.{meaning_of, Kept, can_make, ground};
+ghost use Rattle.bottom.specs.Ledger.{meaning_of, Kept, can_make, ground as without_windows};
 ghost use Rattle.std.proofs.Common.{rules};
 
-use crate::ledger::{Ledger, can_make, is_link};
+use crate::ground::Ground;
+use crate::ledger::Ledger;
 use crate::meeting::meets;
-use crate::table::LAST;
-use book::{Book, BookFault, Window};
+use book::{Book, BookFault, LAST_WINDOW, Span, Window, is_link};
 
 // A book of links 1 to n, each with the same cycle and no rest.
 #[derive(Drop)]
@@ -18,19 +18,19 @@ pub struct FormulaBook {
 
 impl FormulaBook {
     // Whether a book with so many links of this cycle can be made.
-    pub fn can_make(links: u32, cycle: u32) -> Result<(), BookFault>
-        ensures { result ≡ can_make links cycle }
+    pub fn can_make(ground: Ground) -> Result<(), BookFault>
+        ensures { result ≡ can_make ground.links ground.cycle }
     {
-        can_make(links, cycle)
+        ground.check()
     }
 
     // The book without windows. It keeps its meaning where it can be made.
-    pub fn new(links: u32, cycle: u32) -> FormulaBook
-        ensures means { meaning_of result.ledger ≡ ground links cycle }
-        ensures kept { can_make links cycle ≡ Ok tt → Kept result.ledger }
+    pub fn new(ground: Ground) -> FormulaBook
+        ensures means { meaning_of result.ledger ≡ without_windows ground.links ground.cycle }
+        ensures kept { can_make ground.links ground.cycle ≡ Ok tt → Kept result.ledger }
     {
         FormulaBook {
-            ledger: Ledger::new(links, cycle),
+            ledger: Ledger::new(ground),
         }
     }
 
@@ -38,22 +38,15 @@ impl FormulaBook {
     fn meets_standing(&self, number: u32, window: Window) -> bool
         ensures { Kept self.now.ledger → Suits (meaning_of self.now.ledger) window → result ≡ meets_standing (meaning_of self.now.ledger) window ((meaning_of self.now.ledger).windows number) }
     {
-        match self.ledger.find(number) {
-            None => false,
-            Some(standing) => standing.link == window.link && meets(standing, window),
-        }
+        self.ledger.find(number).is_some_and(|standing| standing.link == window.link
+            && meets(standing, window))
     }
 
     // The lowest number whose window meets `window`.
     fn first_met(&self, window: Window) -> Option<u32>
         ensures { Kept self.now.ledger → Suits (meaning_of self.now.ledger) window → result ≡ first_met (meaning_of self.now.ledger) window }
     {
-        for number in 1..=LAST {
-            if self.meets_standing(number, window) {
-                return Some(number);
-            }
-        }
-        None
+        (1..=LAST_WINDOW).find(|&number| self.meets_standing(number, window))
     }
 
     // Whether the window may stand under the number, and if not, why.
@@ -74,10 +67,9 @@ impl FormulaBook {
     fn holds_standing(&self, number: u32, link: u32, step: u64) -> bool
         ensures { result ≡ holds_standing (meaning_of self.now.ledger) link step ((meaning_of self.now.ledger).windows number) }
     {
-        match self.ledger.find(number) {
-            None => false,
-            Some(window) => window.link == link && window.holds(0, step),
-        }
+        self.ledger
+            .find(number)
+            .is_some_and(|window| window.link == link && window.holds(0, step))
     }
 
     // The lowest number whose window holds the step of the link.
@@ -87,12 +79,7 @@ impl FormulaBook {
         if !is_link(link) {
             return None;
         }
-        for number in 1..=LAST {
-            if self.holds_standing(number, link, step) {
-                return Some(number);
-            }
-        }
-        None
+        (1..=LAST_WINDOW).find(|&number| self.holds_standing(number, link, step))
     }
 }
 
@@ -121,7 +108,7 @@ impl Book for FormulaBook {
         self.holder(link, step)
     }
 
-    fn span(&self, link: u32) -> (u32, u32) {
+    fn span(&self, link: u32) -> Span {
         self.ledger.span(link)
     }
 }
@@ -140,10 +127,14 @@ mod tests {
         }
     }
 
+    fn ground(links: u32, cycle: u32) -> Ground {
+        Ground { links, cycle }
+    }
+
     #[test]
     fn the_worked_cases(rt: HostRuntime) {
         for WorkedCase { one, other, first } in worked_cases() {
-            let mut book = FormulaBook::new(1, 12);
+            let mut book = FormulaBook::new(ground(1, 12));
             assert_eq!(rt; book.book(1, one), Ok(()));
             let clash = Err(BookFault::Clash {
                 window: 2,
@@ -162,18 +153,21 @@ mod tests {
     #[test]
     fn what_can_be_made(rt: HostRuntime) {
         let most = u32::MAX;
-        assert_eq!(rt; FormulaBook::can_make(0, 1), Ok(()));
-        assert_eq!(rt; FormulaBook::can_make(32, 1_000_000), Ok(()));
+        assert_eq!(rt; FormulaBook::can_make(ground(0, 1)), Ok(()));
+        assert_eq!(rt; FormulaBook::can_make(ground(32, 1_000_000)), Ok(()));
         for (links, cycle) in [(33, 1), (1, 0), (1, 1_000_001), (most, most)] {
-            assert_eq!(rt; FormulaBook::can_make(links, cycle), Err(BookFault::Absent));
+            assert_eq!(rt;
+                FormulaBook::can_make(ground(links, cycle)),
+                Err(BookFault::Absent)
+            );
         }
     }
 
     // A window for each step of a cycle of 256, and no room for another.
     #[test]
     fn every_number(rt: HostRuntime) {
-        let mut book = FormulaBook::new(32, 256);
-        for number in 1..=LAST {
+        let mut book = FormulaBook::new(ground(32, 256));
+        for number in 1..=LAST_WINDOW {
             assert_eq!(rt; book.book(number, window(32, number - 1, 1, 256)), Ok(()));
         }
         assert_eq!(rt; book.held(32, 256_000_000_255), Some(256));
@@ -190,7 +184,7 @@ mod tests {
     // Periods whose common divisor is 1 meet, however long the cycle.
     #[test]
     fn long_periods(rt: HostRuntime) {
-        let mut book = FormulaBook::new(1, 1_000_000);
+        let mut book = FormulaBook::new(ground(1, 1_000_000));
         assert_eq!(rt; book.book(1, window(1, 0, 1, 15_625)), Ok(()));
         let clash = Err(BookFault::Clash {
             window: 2,

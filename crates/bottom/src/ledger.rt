@@ -1,73 +1,46 @@
 // The windows of a book whose links all have one cycle and no rest.
-ghost use Rattle.std.specs.Prelude.{◌≡◌, true, ◌&&◌, Ok, nat_lt};
+ghost use Rattle.std.specs.Prelude.{◌≡◌, true, Ok};
 ghost use Rattle.book.specs.Calls.{unfit as unfit_in, lift_answer, lift_after, find_answer, span_answer};
-ghost use Rattle.book.specs.Meaning.{numbered, linked, with as changed_at};
+ghost use Rattle.book.specs.Meaning.{numbered, with as changed_at};
 ghost use Rattle.book.specs.Steps.{Steps};
-ghost use Rattle.bottom.specs.Ledger.{meaning_of, Kept, can_make, ground};
+ghost use Rattle.bottom.specs.Ledger.{meaning_of, Kept, can_make, ground as without_windows};
 
-use crate::table::{Table, is_number};
-use book::{BookFault, Window};
+use crate::ground::Ground;
+use book::{BookFault, LAST_WINDOW, Numbered, Span, Window, is_window};
 
-// The greatest number that a link may have.
-const LAST_LINK: u32 = 32;
+// How many numbers windows may have.
+const WINDOWS: usize = LAST_WINDOW as usize;
 
-// The longest cycle, in steps.
-const LONGEST: u32 = 1_000_000;
-
-// Links 1 to `links`, each with this cycle, and their windows.
+// The links of a book, and their windows by their numbers.
 #[derive(Drop)]
 pub struct Ledger {
-    links: u32,
-    cycle: u32,
-    table: Table,
-}
-
-// Whether a link may have the number.
-pub fn is_link(number: u32) -> bool
-    ensures { result ≡ linked number }
-{
-    1 <= number && number <= LAST_LINK
-}
-
-// Whether there can be a ledger with so many links of this cycle.
-pub fn can_make(links: u32, cycle: u32) -> Result<(), BookFault>
-    ensures { result ≡ can_make links cycle }
-{
-    if links <= LAST_LINK && 1 <= cycle && cycle <= LONGEST {
-        Ok(())
-    } else {
-        Err(BookFault::Absent)
-    }
-}
-
-// Whether a window may have the number, and its link, with this cycle, is there.
-fn is_there(number: u32, cycle: u32) -> bool
-    ensures { result ≡ (numbered number && nat_lt 0 cycle) }
-{
-    is_number(number) && cycle > 0
+    ground: Ground,
+    windows: Numbered<Option<Window>, WINDOWS>,
 }
 
 impl Ledger {
     // A ledger without windows.
-    pub fn new(links: u32, cycle: u32) -> Ledger
-        ensures means { meaning_of result ≡ ground links cycle }
-        ensures kept { can_make links cycle ≡ Ok tt → Kept result }
+    pub fn new(ground: Ground) -> Ledger
+        ensures means { meaning_of result ≡ without_windows ground.links ground.cycle }
+        ensures kept { can_make ground.links ground.cycle ≡ Ok tt → Kept result }
     {
         Ledger {
-            links,
-            cycle,
-            table: Table::empty(),
+            ground,
+            windows: Numbered::all(None),
         }
     }
 
     // The cycle and the rest of the link, 0 and 0 where there is no such link.
-    pub fn span(&self, link: u32) -> (u32, u32)
+    pub fn span(&self, link: u32) -> Span
         ensures { Kept self.now → result ≡ span_answer link (meaning_of self.now) }
     {
-        if 1 <= link && link <= self.links {
-            (self.cycle, 0)
+        if (1..=self.ground.links).contains(&link) {
+            Span {
+                cycle: self.ground.cycle,
+                rest: 0,
+            }
         } else {
-            (0, 0)
+            Span::default()
         }
     }
 
@@ -76,24 +49,16 @@ impl Ledger {
         ensures answer { result ≡ find_answer number (meaning_of self.now) }
         ensures stands { result ≡ (meaning_of self.now).windows number }
     {
-        self.table.window(number)
+        self.windows.at(number).flatten()
     }
 
     // Why the window cannot stand under the number, whatever the other windows are.
     pub fn unfit(&self, number: u32, window: Window) -> Result<(), BookFault>
         ensures { Kept self.now → result ≡ unfit_in number window (meaning_of self.now) }
     {
-        let (cycle, rest) = self.span(window.link);
-        if !is_there(number, cycle) {
-            return Err(BookFault::Absent);
-        }
-        if !window.is_well_formed(cycle, rest) {
-            return Err(BookFault::BadForm {
-                window: number,
-                rest,
-            });
-        }
-        if self.table.window(number).is_some() {
+        let span = self.span(window.link);
+        window.check(number, span)?;
+        if self.find(number).is_some() {
             return Err(BookFault::Standing { window: number });
         }
         Ok(())
@@ -102,24 +67,22 @@ impl Ledger {
     // Puts a window or none under the number, where there is such a number.
     pub fn set(&mut self, number: u32, slot: Option<Window>)
         ensures means { numbered number ≡ true → meaning_of self.new ≡ changed_at number slot (meaning_of self.old) }
-        ensures links { self.new.links ≡ self.old.links }
+        ensures ground { self.new.ground ≡ self.old.ground }
     {
-        self.table.set(number, slot);
+        self.windows.set(number, slot);
     }
 
     // Takes the number's window out and answers it.
     pub fn lift(&mut self, number: u32) -> Result<Window, BookFault>
         ensures { Steps meaning_of Kept (lift_answer number) (lift_after number) self.old self.new result }
     {
-        if !is_number(number) {
+        if !is_window(number) {
             return Err(BookFault::Absent);
         }
-        match self.table.window(number) {
-            None => Err(BookFault::NothingThere { window: number }),
-            Some(window) => {
-                self.set(number, None);
-                Ok(window)
-            }
-        }
+        let window = self
+            .find(number)
+            .ok_or(BookFault::NothingThere { window: number })?;
+        self.set(number, None);
+        Ok(window)
     }
 }

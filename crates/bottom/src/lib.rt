@@ -2,8 +2,9 @@
 #![tactic(auto)]
 
 mod formula;
+mod ground;
 mod ledger;
 mod meeting;
-mod table;
 
 pub use formula::FormulaBook;
+pub use ground::Ground;

@@ -1,22 +1,18 @@
--- The same number for every link.
-use Rattle.std.proofs.Common.{◌≡◌, ℕ, zero, suc, ◌-◌, ◌<◌, ◌≤◌, Bool, true, false, cond, get_or, replicate, refl, ap, arith}
-use Rattle.std.proofs.lemmas.Bool.Decides.{nat_tests}
+-- The numbers of links.
+use Rattle.std.proofs.Common.{◌≡◌, ℕ, Bool, true, false, cond, Some, None, Option, refl, ap}
+use Rattle.std.specs.Option.{unwrap_or}
 use Rattle.book.specs.Meaning.{linked}
 use Rattle.layer.specs.declared.per_link.PerLink.{PerLink}
-use Rattle.layer.specs.Links.{value_at, alike}
+use Rattle.layer.specs.Links.{value_at}
 
-repeated : (n k v : ℕ) → k < n → get_or (replicate n v) k 0 ≡ v
-repeated zero k v less = absurd (omega arith)
-repeated (suc n) zero v less = refl
-repeated (suc n) (suc k) v less = repeated n k v (omega arith)
-
-pub all_alike : (v : ℕ) → value_at (record { values = replicate 32 v }) ≡ alike v
-all_alike v i l = go (linked l) refl i
-  where
-    go : (b : Bool) → linked l ≡ b → cond b (get_or (replicate 32 v) (l - 1) 0) 0 ≡ cond b v 0
-    go true there = let low : 1 ≤ l = grind (arith, nat_tests) in let high : l ≤ 32 = grind (arith, nat_tests) in repeated 32 (l - 1) v (omega arith)
-    go false absent = refl
+-- a value where the test holds, and the number without one elsewhere
+pub given : (b : Bool) (v : ℕ) (o : Option ℕ) → unwrap_or (cond b (Some v) o) 0 ≡ cond b v (unwrap_or o 0)
+given true v o = refl
+given false v o = refl
 
 -- what is no link has no number
+outside : (b : Bool) (o : Option ℕ) → b ≡ false → unwrap_or (cond b o None) 0 ≡ 0
+outside b o absent = ap (λ v. unwrap_or (cond v o None) 0) absent
+
 pub none_outside : (p : PerLink) (l : ℕ) → linked l ≡ false → value_at p l ≡ 0
-none_outside p l absent = ap (λ v. cond v (get_or p.values (l - 1) 0) 0) absent
+none_outside p l = outside (linked l) _

@@ -1,11 +1,13 @@
 -- A number for each link.
-use Rattle.std.specs.Prelude.{ℕ, ◌-◌, cond, ◌&&◌, ◌==◌, slice_index}
+use Rattle.std.specs.Prelude.{ℕ, cond, ◌&&◌, ◌==◌}
+use Rattle.std.specs.Option.{unwrap_or}
 use Rattle.book.specs.Meaning.{linked}
+use Rattle.book.specs.Numbered as numbered
 use Rattle.layer.specs.declared.per_link.PerLink.{PerLink}
 
--- the number of each link, 0 for what is no link; the first place is that of link 1
+-- the number of each link, 0 for what is no link
 abbrev pub value_at : PerLink → ℕ → ℕ
-value_at p l = cond (linked l) (slice_index p.values (l - 1)) 0
+value_at p l = unwrap_or (numbered.value_at p.values l) 0
 
 -- the same number for every link
 abbrev pub alike : ℕ → ℕ → ℕ

@@ -7,7 +7,7 @@ ghost use Rattle.layer.specs.Graining.{grain_through, grain_replaced, grain_put,
 use crate::layer::{Layer, vacant};
 use crate::per_link::PerLink;
 use crate::view::View;
-use book::{Book, MakeFault, Window};
+use book::{Book, MakeFault, Span, Window};
 
 // A step of each link is as many steps below as the link's grain.
 #[derive(Drop)]
@@ -81,12 +81,14 @@ impl View for Grain {
         step.saturating_mul(u64::from(self.grain.at(link)))
     }
 
-    fn span(&self, link: u32, span: (u32, u32)) -> (u32, u32) {
-        let (cycle, rest) = span;
+    fn span(&self, link: u32, span: Span) -> Span {
         let grain = self.grain.at(link);
-        if grain == 0 || cycle == 0 || cycle % grain != 0 {
-            return (0, 0);
+        if grain == 0 || span.cycle == 0 || span.cycle % grain != 0 {
+            return Span::default();
         }
-        (cycle / grain, rest.div_ceil(grain))
+        Span {
+            cycle: span.cycle / grain,
+            rest: span.rest.div_ceil(grain),
+        }
     }
 }

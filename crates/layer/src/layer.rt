@@ -4,7 +4,7 @@ ghost use Rattle.book.proofs.Through.{through_sound};
 ghost use Rattle.layer.specs.Vacancy.{vacant};
 
 use crate::view::View;
-use book::{Book, BookFault, MakeFault, Window, holds_windows};
+use book::{Book, BookFault, MakeFault, Span, Window, holds_windows};
 
 // A book whose windows are those of the book below, as the view shows them.
 #[derive(Drop)]
@@ -31,8 +31,7 @@ impl<B: Book, V: View> Book for Layer<B, V> {
     ghost sound = { λ x (keeps, tied). through_sound (V.View.through x.view (B.Book.meaning x.below) (B.Book.sound x.below keeps) tied) };
 
     fn book(&mut self, number: u32, window: Window) -> Result<(), BookFault> {
-        let (cycle, rest) = self.span(window.link);
-        window.check(number, cycle, rest)?;
+        window.check(number, self.span(window.link))?;
         self.below.book(number, self.view.down(window))
     }
 
@@ -46,12 +45,12 @@ impl<B: Book, V: View> Book for Layer<B, V> {
 
     // A link's steps are held alike in every cycle, so the place in the cycle is asked for below.
     fn held(&self, link: u32, step: u64) -> Option<u32> {
-        let (cycle, _) = self.span(link);
+        let Span { cycle, .. } = self.span(link);
         let place = step.checked_rem(u64::from(cycle))?;
         self.below.held(link, self.view.step_below(link, place))
     }
 
-    fn span(&self, link: u32) -> (u32, u32) {
+    fn span(&self, link: u32) -> Span {
         self.view.span(link, self.below.span(link))
     }
 }

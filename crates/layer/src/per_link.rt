@@ -2,11 +2,15 @@
 ghost use Rattle.std.specs.Prelude.{◌≡◌};
 ghost use Rattle.layer.specs.Links.{value_at, alike, changed_at};
 
-use book::is_link;
+use book::{LAST_LINK, Numbered};
 
+// How many links there may be.
+const LINKS: usize = LAST_LINK as usize;
+
+// A number for each link, 0 for what is no link.
 #[derive(Clone, Copy)]
 pub struct PerLink {
-    values: [u32; 32],
+    values: Numbered<u32, LINKS>,
 }
 
 impl PerLink {
@@ -15,7 +19,7 @@ impl PerLink {
         ensures { value_at result ≡ alike value }
     {
         PerLink {
-            values: [value; 32],
+            values: Numbered::all(value),
         }
     }
 
@@ -23,18 +27,13 @@ impl PerLink {
     pub fn at(&self, link: u32) -> u32
         ensures { result ≡ value_at self.now link }
     {
-        if !is_link(link) {
-            return 0;
-        }
-        self.values[link as usize - 1]
+        self.values.at(link).unwrap_or(0)
     }
 
     // Gives the link, where there is such a link, another number.
     pub fn set(&mut self, link: u32, value: u32)
         ensures { value_at self.new ≡ changed_at link value (value_at self.old) }
     {
-        if is_link(link) {
-            self.values[link as usize - 1] = value;
-        }
+        self.values.set(link, value);
     }
 }

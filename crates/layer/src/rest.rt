@@ -7,7 +7,7 @@ ghost use Rattle.layer.specs.Resting.{rest_through, rest_replaced, rest_put, res
 use crate::layer::{Layer, vacant};
 use crate::per_link::PerLink;
 use crate::view::View;
-use book::{Book, LAST_LINK, MakeFault, Window};
+use book::{Book, LAST_LINK, MakeFault, Span, Window};
 
 // The greatest rest, in steps.
 const GREATEST: u64 = 1_000_000;
@@ -26,7 +26,7 @@ fn first_over<B: Book>(below: &B, extra: &PerLink) -> Option<u32>
     ensures { B.Book.keeps below.now → result ≡ first_over (value_at extra.now) (B.Book.meaning below.now) }
 {
     (1..=LAST_LINK).find(|&link| {
-        let (_, rest) = below.span(link);
+        let Span { rest, .. } = below.span(link);
         u64::from(rest) + u64::from(extra.at(link)) > GREATEST
     })
 }
@@ -91,8 +91,10 @@ impl View for Extra {
         step
     }
 
-    fn span(&self, link: u32, span: (u32, u32)) -> (u32, u32) {
-        let (cycle, rest) = span;
-        (cycle, rest.saturating_add(self.extra.at(link)))
+    fn span(&self, link: u32, span: Span) -> Span {
+        Span {
+            rest: span.rest.saturating_add(self.extra.at(link)),
+            ..span
+        }
     }
 }

@@ -7,7 +7,7 @@ ghost use Rattle.book.specs.Sound.{Sound, Suits};
 ghost use Rattle.book.specs.declared.Window.{Window};
 ghost use Rattle.book.proofs.Through.{Through};
 
-use book::Window;
+use book::{Span, Window};
 
 pub trait View {
     // A window of the book above as the book below has it.
@@ -38,7 +38,7 @@ pub trait View {
         ensures { step < 2 ^ 32 → result ≡ step_below self.now link step };
 
     // The cycle and the rest of the link, by those of the book below.
-    fn span(&self, link: u32, span: (u32, u32)) -> (u32, u32)
+    fn span(&self, link: u32, span: Span) -> Span
         ensures { (m : Meaning) → tied self.now m → span ≡ span_answer link m → result ≡ span_answer link (above self.now m) };
 
     // The book above is one that is kept in the book below.

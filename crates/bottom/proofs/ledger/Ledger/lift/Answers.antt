@@ -1,8 +1,8 @@
-use Rattle.std.proofs.Common.{sym, ◌∙◌}
+use Rattle.std.proofs.Common.{sym, ◌∙◌, rules}
 use Rattle.bottom.proofs.Grounds.{lifted}
 use Rattle.bottom.proofs.ledger.Ledger.lift.Goals as goal
 
-pub returns-in-Some : goal.returns-in-Some
-returns-in-Some c =
-    let number = sym c.if-not-is_number.ensures in
-    lifted c.args.self.now c.set.new.self c.args.number c.in-Some.window number (sym c.window.ensures ∙ c.in-Some.is) (c.set.ensures.means number) c.set.ensures.links
+pub returns : goal.returns
+returns c =
+    let number = sym c.if-not-is_window.ensures in
+    lifted c.args.self.now c.set.new.self c.args.number c.in_ok-window.window number (sym c.find.ensures.stands ∙ search rules) (c.set.ensures.means number) c.set.ensures.ground

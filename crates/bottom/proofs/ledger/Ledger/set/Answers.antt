@@ -1,9 +1,10 @@
 use Rattle.std.proofs.Common.{refl}
 use Rattle.bottom.specs.Ledger.{cycle_of, no_rest}
+use Rattle.bottom.proofs.Windows.{one_changed}
 use Rattle.bottom.proofs.ledger.Ledger.set.Goals as goal
 
 pub returns : goal.returns
 returns c = record {
-  means = λ number i. record { windows = c.set.ensures number i; cycle = cycle_of c.args.self.now.links c.args.self.now.cycle; rest = no_rest };
-  links = refl;
+  means = λ number i. record { windows = one_changed c.args.self.now.windows c.set.new.self c.args.number c.args.slot c.set.ensures number i; cycle = cycle_of c.args.self.now.ground.links c.args.self.now.ground.cycle; rest = no_rest };
+  ground = refl;
 }

@@ -1,11 +1,11 @@
--- The numbers from 1 to a last one, as `find` tries them on a closure that answers a test.
-use Rattle.std.proofs.Common.{◌≡◌, ℕ, ◌+◌, ◌-◌, ◌<◌, ◌≤◌, Bool, true, false, Some, None, Option, MatchOption, IfSome, sym, refl, ap, ◌∙◌, subst, ⊎_elim, arith}
+-- The numbers from 1 to a last one, as `find` and `any` try them on a closure that answers a test.
+use Rattle.std.proofs.Common.{◌≡◌, ℕ, ◌+◌, ◌-◌, ◌<◌, ◌≤◌, Bool, true, false, is_some, Some, None, Option, MatchOption, IfSome, sym, refl, ap, ◌∙◌, subst, ⊎_elim, arith}
 use Rattle.std.proofs.lemmas.Bool.Decides.{leb_tells, eqb_tells}
 use mathlib.Core.Logic.{◌⊎◌, inl, inr}
 use Rattle.std.proofs.iter.runs.Sources.{nat_range_inclusive_steps, inclusive_listed}
-use Rattle.std.specs.Bool.{IsTrue}
-use Rattle.std.specs.Fn.{CalledAt}
-use Rattle.std.specs.Iterator.Runs.{Run, SomeRun, CallKeepsClosure, NoItemPasses, EndsAtFirstPassing, ItemsCountUp}
+use Rattle.std.specs.Bool.{MatchBool, IsTrue}
+use Rattle.std.specs.Fn.{Called, CalledAt}
+use Rattle.std.specs.Iterator.Runs.{Run, SomeRun, CallKeepsClosure, AllItemsGive, AnyItemGives, NoItemPasses, EndsAtFirstPassing, ItemsCountUp}
 use Rattle.std.specs.Option.{option_map, IsSomeAnd}
 use Rattle.std.specs.Range.{range_inclusive_start, range_inclusive_end, range_inclusive_exhausted}
 use Rattle.std.specs.declared.ops.RangeInclusive.{RangeInclusive}
@@ -56,8 +56,8 @@ module _ (last : ℕ) (p : ℕ → Bool) (s : RangeInclusive ℕ) (one : range_i
       at_item (u.at (j - 1)) j P ((counted u from).3 (j - 1) within ∙ ap Some same) holds
 
   -- `find` answers the lowest number that passes
-  pub find_is_lowest : {F : Type 0} {g : Mut F (Bor ℕ × Unit {0}) Bool} {f : F} (r : Option ℕ) → SomeRun nat_range_inclusive_steps s (λ u. MatchOption r (IsTrue u.whole × NoItemPasses u g f) (EndsAtFirstPassing u g f)) → CallKeepsClosure g f → ((x : ℕ) → 1 ≤ x → x ≤ last → (b : Bool) → CalledAt g f x b f → b ≡ p x) → r ≡ lowest p 1 last
-  find_is_lowest {F} {g} {f} r (u, from, ends) keeps tests = one_found p 1 last r (lowest p 1 last) (go r ends) (found p last 1)
+  pub find_lowest : {F : Type 0} {g : Mut F (Bor ℕ × Unit {0}) Bool} {f : F} (r : Option ℕ) → SomeRun nat_range_inclusive_steps s (λ u. MatchOption r (IsTrue u.whole × NoItemPasses u g f) (EndsAtFirstPassing u g f)) → CallKeepsClosure g f → ((x : ℕ) → 1 ≤ x → x ≤ last → (b : Bool) → CalledAt g f x b f → b ≡ p x) → r ≡ lowest p 1 last
+  find_lowest {F} {g} {f} r (u, from, ends) keeps tests = one_found p 1 last r (lowest p 1 last) (go r ends) (found p last 1)
     where
       fails : (j : ℕ) → 1 ≤ j → j - 1 < u.len → IfSome (u.at (j - 1)) (λ x. CalledAt g f x false f) → p j ≡ false
       fails j low within called = sym (tests j low (omega (arith, (counted u from).0)) false (at_place u from (λ x. CalledAt g f x false f) j low within called))
@@ -74,3 +74,22 @@ module _ (last : ℕ) (p : ℕ → Bool) (s : RangeInclusive ℕ) (one : range_i
         where
           at_item_is : (x i : ℕ) → u.at i ≡ Some x → (x ≡ 1 + i) × (x < last + 1)
           at_item_is x i at = subst (λ o. IfSome o (λ x. (x ≡ 1 + i) × (x < last + 1))) at ((counted u from).2 i)
+
+  -- `any` answers whether there is one
+  pub any_lowest : {F : Type 0} {g : Mut F (ℕ × Unit {0}) Bool} {f : F} (r : Bool) → SomeRun nat_range_inclusive_steps s (λ u. MatchBool r (AnyItemGives u g f true) (IsTrue u.whole × AllItemsGive u g f false)) → CallKeepsClosure g f → ((x : ℕ) → 1 ≤ x → x ≤ last → (b : Bool) → Called g f (x, tt) b f → b ≡ p x) → r ≡ is_some (lowest p 1 last)
+  any_lowest {F} {g} {f} r (u, from, ends) keeps tests = go r (lowest p 1 last) ends (found p last 1)
+    where
+      go : (b : Bool) (o : Option ℕ) → MatchBool b (AnyItemGives u g f true) (IsTrue u.whole × AllItemsGive u g f false) → Found p 1 last o → b ≡ is_some o
+      go true (Some k) any at = refl
+      go false None all at = refl
+      go true None any (nowhere all) =
+          let (k, within, called) = any keeps in
+          let here : k + 1 - 1 ≡ k = omega arith in
+          let passes = tests (k + 1) (omega arith) (omega (arith, (counted u from).0)) true (at_place u from (λ x. Called g f (x, tt) true f) (k + 1) (omega arith) (omega arith) (some_item (u.at (k + 1 - 1)) (λ x. Called g f (x, tt) true f) (subst (λ i. IsSomeAnd (u.at i) (λ x. Called g f (x, tt) true f)) (sym here) called))) in
+          let never : true ≡ false = passes ∙ all (k + 1) (omega arith) (omega (arith, (counted u from).0)) in
+          absurd (let z : ◌≡◌ {A = ℕ} 0 1 = cc in omega arith)
+      go false (Some k) (whole, all) (somewhere k' low high passes below) =
+          let len : u.len ≡ last + 1 - 1 = (counted u from).1 whole in
+          let fails = tests k low (omega arith) false (at_place u from (λ x. Called g f (x, tt) false f) k low (omega arith) (all keeps (k - 1))) in
+          let never : true ≡ false = sym passes ∙ sym fails in
+          absurd (let z : ◌≡◌ {A = ℕ} 0 1 = cc in omega arith)
