@@ -1,14 +1,15 @@
 -- The number that is answered to held is the one whose window holds the step.
-use Rattle.std.proofs.Common.{◌≡◌, ℕ, ◌%◌, Bool, true, false, cond, ◌&&◌, eqb, Some, None, Decides, Option, sym, refl, ap, ◌∙◌, subst, arith}
-use Rattle.std.proofs.lemmas.Bool.Decides.{Decides-eqb, Decides-like, not_from_Decides, same_from_decides}
+use Rattle.std.proofs.Common.{◌≡◌, ℕ, ◌%◌, ◌<◌, Bool, true, false, cond, ◌&&◌, eqb, ltb, Some, None, Decides, Option, sym, refl, ap, ◌∙◌, subst, arith}
+use Rattle.std.proofs.lemmas.Bool.Decides.{nat_tests, Decides-eqb, Decides-like, not_from_Decides, same_from_decides}
+use Rattle.book.specs.declared.span.Span.{Span}
 use Rattle.book.specs.declared.window.Window.{Window}
-use Rattle.book.specs.Calls.{holds_standing, held_answer}
+use Rattle.book.specs.Calls.{holds_standing, held_answer, span_answer}
 use Rattle.book.specs.Form.{GoodForm}
 use Rattle.book.specs.Holding.{Holds}
 use Rattle.book.specs.Lowest.{lowest}
-use Rattle.book.specs.Meaning.{Meaning, linked}
+use Rattle.book.specs.Meaning.{Meaning, linked, present}
 use Rattle.book.specs.Sound.{Sound, Stands, HoldsAt, HeldExactly}
-use Rattle.book.proofs.Clashing.{both, number_range}
+use Rattle.book.proofs.Clashing.{both, number_range, cycle_some}
 use Rattle.book.proofs.Lowest.{Found, nowhere, somewhere, found}
 use Rattle.book.proofs.Unbounded.{holds_decides, in_first_cycle, in_each_cycle}
 
@@ -62,7 +63,7 @@ held_in_cycle m sound l s =
 
 module _ (m : Meaning) (sound : Sound m) (l s : ℕ) where
   -- no two windows hold the step
-  one_holder : (j k : ℕ) → HoldsAt m l s j → HoldsAt m l s k → j ≡ k
+  pub one_holder : (j k : ℕ) → HoldsAt m l s j → HoldsAt m l s k → j ≡ k
   one_holder j k (v, (stands_v, (link_v, held_v))) (w, (stands_w, (link_w, held_w))) = go (eqb j k) refl
     where
       At : Window → ℕ → Type 0
@@ -104,3 +105,23 @@ module _ (m : Meaning) (sound : Sound m) (l s : ℕ) where
         (λ some. absurd (let z : ◌≡◌ {A = ℕ} 0 1 = cc in omega arith)),
         (λ held. absurd (let there = held_linked k held in let z : ◌≡◌ {A = ℕ} 0 1 = cc in omega arith)),
       )
+
+  -- a link without a cycle is not there, and no step of it is held
+  pub absent_held : (span : Span) → span ≡ span_answer l m → span.cycle ≡ 0 → held_answer l s m ≡ None
+  absent_held span is none =
+      held_none m l s (λ k at.
+      let (w, (stands, (link, held))) = at in
+      let some = cycle_some m w.link (sound.proper k w stands).suits.link in
+      let cycle : span.cycle ≡ m.cycle l = ap (λ x. x.cycle) (is ∙ ap (λ v. cond v (record { cycle = m.cycle l; rest = m.rest l }) (record { cycle = 0; rest = 0 })) (held_linked k at)) in
+      omega (arith, none, cycle, ap m.cycle link))
+
+  -- a step is held as its place in the cycle of the link, which the number r is answered to
+  pub placed_held : (span : Span) (r : Option ℕ) → span ≡ span_answer l m → 0 < span.cycle → (present m l ≡ true → r ≡ held_answer l (s % span.cycle) m) → r ≡ held_answer l s m
+  placed_held span r is some place = go (linked l) refl is
+    where
+      go : (v : Bool) → linked l ≡ v → span ≡ cond v (record { cycle = m.cycle l; rest = m.rest l }) (record { cycle = 0; rest = 0 }) → r ≡ held_answer l s m
+      go true on same =
+          let cycle : span.cycle ≡ m.cycle l = ap (λ x. x.cycle) same in
+          let there : ltb 0 (m.cycle l) ≡ true = grind (arith, nat_tests) in
+          place (λ i. on i && there i) ∙ ap (λ x. held_answer l (s % x) m) cycle ∙ sym (held_in_cycle m sound l s)
+      go false off same = absurd (omega (arith, some, ap (λ x. x.cycle) same))

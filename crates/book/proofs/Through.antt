@@ -1,24 +1,25 @@
 -- A book that is kept in another one: each window is handed to the book below in another form.
-use Rattle.std.proofs.Common.{◌≡◌, ℕ, ◌≤◌, Bool, true, false, cond, not, eqb, is_some, Some, None, Ok, Err, Option, Result, sym, refl, ap, ◌∙◌, subst, arith}
+use Rattle.std.proofs.Common.{◌≡◌, ℕ, ◌^◌, ◌%◌, ◌<◌, ◌≤◌, Bool, true, false, cond, eqb, is_some, Some, None, Ok, Err, Option, Result, sym, refl, ap, ◌∙◌, subst, arith}
 use Rattle.std.proofs.lemmas.Bool.Decides.{Decides-like, same_from_decides}
 use Rattle.std.specs.Option.{option_map}
 use Rattle.std.specs.Result.{result_and}
 use Rattle.book.specs.declared.fault.BookFault.{BookFault}
-use Rattle.book.specs.declared.fault.BookFault.TheVariants.{Absent}
+use Rattle.book.specs.declared.span.Span.{Span}
 use Rattle.book.specs.declared.window.Window.{Window}
-use Rattle.book.specs.Calls.{meets_standing, first_met, unfit, unmet, book_answer, book_after, changed, standing, lift_answer, lift_after, find_answer, held_answer}
+use Rattle.book.specs.Calls.{meets_standing, first_met, misfit, unfit, unmet, book_answer, book_after, changed, held_answer, span_answer}
 use Rattle.book.specs.Holding.{Holds, Meet}
 use Rattle.book.specs.Lowest.{lowest}
-use Rattle.book.specs.Meaning.{Meaning, numbered, replaced, with}
-use Rattle.book.specs.Sound.{Stands, EachStanding, Suits, Proper, Sound, WouldMeet}
+use Rattle.book.specs.Meaning.{Meaning, present, replaced, with}
+use Rattle.book.specs.Sound.{Stands, EachStanding, Suits, Proper, Sound, WouldMeet, HoldsAt}
 use Rattle.book.specs.Steps.{Did}
 use Rattle.book.proofs.Clashing.{meets_standing_lem}
-use Rattle.book.proofs.Fitting.{free, unfit_proper}
-use Rattle.book.proofs.Holders.{held_like}
+use Rattle.book.proofs.Fitting.{free, unfit_proper, fitting, period_short}
+use Rattle.book.proofs.Holders.{held_like, one_holder, placed_held}
 use Rattle.book.proofs.Keeping.{stands_with}
 
--- m is kept in m₀: its windows are those of m₀ by up, and a window that suits m is kept as down says
-pub record Through (up down : Window → Window) (m₀ m : Meaning) : Type 0 where
+-- m is kept in m₀: its windows are those of m₀ by up, a window that suits m is kept as down says, and a step of a link is held
+-- as the step below that lower gives
+pub record Through (up down : Window → Window) (lower : ℕ → ℕ → ℕ) (m₀ m : Meaning) : Type 0 where
   pub inner : Sound m₀
   pub cycles : (l : ℕ) → m.cycle l ≤ 1000000
   pub rests : (l : ℕ) → m.rest l ≤ 1000000
@@ -26,10 +27,12 @@ pub record Through (up down : Window → Window) (m₀ m : Meaning) : Type 0 whe
   pub link : (w : Window) → (down w).link ≡ w.link
   pub above : EachStanding m₀ (λ v. Suits m (up v) × (down (up v) ≡ v))
   pub below : (w : Window) → Suits m w → Suits m₀ (down w) × (up (down w) ≡ w)
-  pub meets : (v w : Window) → Suits m v → Suits m w → v.link ≡ w.link → Meet (m.rest w.link) v w → Meet (m₀.rest w.link) (down v) (down w)
-  pub met : (v w : Window) → Suits m v → Suits m w → v.link ≡ w.link → Meet (m₀.rest w.link) (down v) (down w) → Meet (m.rest w.link) v w
+  pub raise : ℕ → ℕ → ℕ
+  pub raised : (l s : ℕ) → present m l ≡ true → raise l (lower l s) ≡ s
+  pub falls : (w : Window) → Suits m w → (s : ℕ) → Holds w (m.rest w.link) s → Holds (down w) (m₀.rest w.link) (lower w.link s)
+  pub rises : (w : Window) → Suits m w → (s : ℕ) → Holds (down w) (m₀.rest w.link) s → Holds w (m.rest w.link) (raise w.link s)
 
-module _ {up down : Window → Window} {m₀ m : Meaning} (t : Through up down m₀ m) where
+module _ {up down : Window → Window} {lower : ℕ → ℕ → ℕ} {m₀ m : Meaning} (t : Through up down lower m₀ m) where
   -- the window below that a window is kept as
   kept_as : (k : ℕ) (w : Window) → Stands m k w → (v : Window) × (Stands m₀ k v × (up v ≡ w))
   kept_as k w stands = go (m₀.windows k) refl (sym (t.windows k) ∙ stands)
@@ -41,15 +44,22 @@ module _ {up down : Window → Window} {m₀ m : Meaning} (t : Through up down m
   suits_above : (k : ℕ) (w : Window) → Stands m k w → Suits m w
   suits_above k w stands = let (v, (there, same)) = kept_as k w stands in subst (Suits m) same (t.above k v there).0
 
-  -- it is the one that down gives
-  down_is : (k : ℕ) (v w : Window) → Stands m₀ k v → up v ≡ w → down w ≡ v
-  down_is k v w there same = ap down (sym same) ∙ (t.above k v there).1
+  -- the number whose window holds a step of a link holds it below, and the other way round
+  held_below : (l s k : ℕ) → HoldsAt m l s k → HoldsAt m₀ l (lower l s) k
+  held_below l s k (w, (stands, (link, held))) =
+      let (v, (there, is)) = kept_as k w stands in
+      let same : down w ≡ v = ap down (sym is) ∙ (t.above k v there).1 in
+      let At : ℕ → Type 0 = λ i. Holds w (m.rest i) s → Holds (down w) (m₀.rest i) (lower i s) in
+      let Kept : Window → Type 0 = λ x. Holds x (m₀.rest l) (lower l s) in
+      (v, (there, (ap (λ x. x.link) (sym same) ∙ t.link w ∙ link, subst Kept same (subst At link (t.falls w (suits_above k w stands) s) held))))
 
-  link_above : (k : ℕ) (v : Window) → Stands m₀ k v → (up v).link ≡ v.link
-  link_above k v there = sym (t.link (up v)) ∙ ap (λ x. x.link) (t.above k v there).1
-
-  stands_above : (k : ℕ) (v : Window) → Stands m₀ k v → Stands m k (up v)
-  stands_above k v there = t.windows k ∙ ap (option_map up) there
+  held_above : (l s k : ℕ) → HoldsAt m₀ l s k → HoldsAt m l (t.raise l s) k
+  held_above l s k (v, (there, (link, held))) =
+      let (suits, same) = t.above k v there in
+      let seen : (up v).link ≡ l = sym (t.link (up v)) ∙ ap (λ x. x.link) same ∙ link in
+      let At : ℕ → Type 0 = λ i. Holds (down (up v)) (m₀.rest i) s → Holds (up v) (m.rest i) (t.raise i s) in
+      let Kept : Window → Type 0 = λ x. Holds x (m₀.rest l) s in
+      (up v, (t.windows k ∙ ap (option_map up) there, (seen, subst At seen (t.rises (up v) suits s) (subst Kept (sym same) held))))
 
   -- no two windows of the book above ever hold one step, since none of the book below do
   pub through_sound : Sound m
@@ -58,35 +68,23 @@ module _ {up down : Window → Window} {m₀ m : Meaning} (t : Through up down m
     rests = t.rests;
     proper = λ n w stands. record { number = (t.inner.proper n (kept_as n w stands).0 (kept_as n w stands).1.0).number; suits = suits_above n w stands };
     apart = λ i j v w other one two same s held also.
-        let (x, (there, is)) = kept_as i v one in
-        let (y, (there', is')) = kept_as j w two in
         let At : ℕ → Type 0 = λ l. Holds v (m.rest l) s in
-        let (s₀, (held₀, also₀)) = t.meets v w (suits_above i v one) (suits_above j w two) same (s, (subst At same held, also)) in
-        let first = down_is i x v there is in
-        let second = down_is j y w there' is' in
-        let link : w.link ≡ y.link = sym (t.link w) ∙ ap (λ z. z.link) second in
-        let link' : w.link ≡ x.link = sym same ∙ sym (t.link v) ∙ ap (λ z. z.link) first in
-        let One : Window → Type 0 = λ z. Holds z (m₀.rest w.link) s₀ in
-        let First : ℕ → Type 0 = λ l. Holds x (m₀.rest l) s₀ in
-        let Second : ℕ → Type 0 = λ l. Holds y (m₀.rest l) s₀ in
-        t.inner.apart i j x y other there there' (sym link' ∙ link) s₀ (subst First link' (subst One first held₀)) (subst Second link (subst One second also₀));
+        other (one_holder m₀ t.inner w.link (lower w.link s) i j (held_below w.link s i (v, (one, (same, subst At same held)))) (held_below w.link s j (w, (two, (refl, also)))));
   }
 
   module _ (w : Window) (suits : Suits m w) where
     would : (k : ℕ) → WouldMeet m w k → WouldMeet m₀ (down w) k
-    would k (v, (stands, (same, met))) =
-        let (x, (there, is)) = kept_as k v stands in
-        let first = down_is k x v there is in
-        let low = t.meets v w (suits_above k v stands) suits same met in
-        let At : Window → ℕ → Type 0 = λ z l. Meet (m₀.rest l) z (down w) in
-        (x, (there, (ap (λ z. z.link) (sym first) ∙ t.link v ∙ same ∙ sym (t.link w), subst (At x) (sym (t.link w)) (subst (λ z. At z w.link) first low))))
+    would k (v, (stands, (same, (s, (one, other))))) =
+        let (x, (there, (link, held))) = held_below w.link s k (v, (stands, (same, one))) in
+        let At : ℕ → Type 0 = λ l. Meet (m₀.rest l) x (down w) in
+        (x, (there, (link ∙ sym (t.link w), subst At (sym (t.link w)) (lower w.link s, (held, t.falls w suits s other)))))
 
     would_back : (k : ℕ) → WouldMeet m₀ (down w) k → WouldMeet m w k
     would_back k (x, (there, (same, met))) =
-        let link = link_above k x there ∙ same ∙ t.link w in
-        let At : Window → ℕ → Type 0 = λ z l. Meet (m₀.rest l) z (down w) in
-        let low = subst (λ z. At z w.link) (sym (t.above k x there).1) (subst (At x) (t.link w) met) in
-        (up x, (stands_above k x there, (link, t.met (up x) w (t.above k x there).0 suits link low)))
+        let At : ℕ → Type 0 = λ l. Meet (m₀.rest l) x (down w) in
+        let (s, (one, other)) = subst At (t.link w) met in
+        let (v, (stands, (link, held))) = held_above w.link s k (x, (there, (same ∙ t.link w, one))) in
+        (v, (stands, (link, (t.raise w.link s, (held, t.rises w suits s other)))))
 
     -- the window meets the same numbers below
     pub through_met : first_met m₀ (down w) ≡ first_met m w
@@ -106,46 +104,24 @@ module _ {up down : Window → Window} {m₀ m : Meaning} (t : Through up down m
       let fits : unfit n (down w) m₀ ≡ unfit n w m = unfit_proper m₀ n (down w) (record { number = proper.number; suits = low }) ∙ ap (free n) taken ∙ sym (unfit_proper m n w proper) in
       λ i. result_and (fits i) (unmet n (through_met w proper.suits i))
 
-  pub through_find : (n : ℕ) → option_map up (find_answer n m₀) ≡ find_answer n m
-  through_find n = go (numbered n)
-    where
-      go : (v : Bool) → option_map up (cond v (m₀.windows n) None) ≡ cond v (m.windows n) None
-      go true = sym (t.windows n)
-      go false = refl
+  -- a step of a link that is there is held as one of the book below
+  through_held : (l s : ℕ) → present m l ≡ true → held_answer l (lower l s) m₀ ≡ held_answer l s m
+  through_held l s on =
+      held_like m₀ m l (lower l s) s
+      (λ k held. subst (λ i. HoldsAt m l i k) (t.raised l s on) (held_above l (lower l s) k held))
+      (held_below l s)
 
-  -- a step of the book above is held as one of the book below
-  pub through_held : (l s s₀ : ℕ) → ((k : ℕ) (v : Window) → Stands m₀ k v → v.link ≡ l → Holds (up v) (m.rest l) s → Holds v (m₀.rest l) s₀) → ((k : ℕ) (v : Window) → Stands m₀ k v → v.link ≡ l → Holds v (m₀.rest l) s₀ → Holds (up v) (m.rest l) s) → held_answer l s₀ m₀ ≡ held_answer l s m
-  through_held l s s₀ falls rises =
-      held_like m₀ m l s₀ s
-      (λ k (v, (there, (link, held))). (up v, (stands_above k v there, (link_above k v there ∙ link, rises k v there link held))))
-      (λ k (w, (stands, (link, held))).
-      let (v, (there, is)) = kept_as k w stands in
-      let low : v.link ≡ l = sym (link_above k v there) ∙ ap (λ x. x.link) is ∙ link in
-      let At : Window → Type 0 = λ x. Holds x (m.rest l) s in
-      (v, (there, (low, falls k v there low (subst At (sym is) held)))))
-
--- a window in an accepted answer, as the book above sees it
-abbrev pub on_ok : (Window → Window) → Result Window BookFault → Result Window BookFault
-on_ok up (Ok w) = Ok (up w)
-on_ok up (Err e) = Err e
-
-pub through_lift : (up : Window → Window) (m₀ m : Meaning) (n : ℕ) → m.windows n ≡ option_map up (m₀.windows n) → on_ok up (lift_answer n m₀) ≡ lift_answer n m
-through_lift up m₀ m n is = go (numbered n) ∙ ap (λ o. cond (not (numbered n)) (Err Absent) (standing n o)) (sym is)
-  where
-    there : (o : Option Window) → on_ok up (standing n o) ≡ standing n (option_map up o)
-    there None = refl
-    there (Some w) = refl
-
-    go : (v : Bool) → on_ok up (cond (not v) (Err Absent) (standing n (m₀.windows n))) ≡ cond (not v) (Err Absent) (standing n (option_map up (m₀.windows n)))
-    go true = there (m₀.windows n)
-    go false = refl
+  -- so the book below, asked for the place of the step in the cycle of the link, gives the answer
+  pub held_through : (l s place below : ℕ) (span : Span) (r : Option ℕ) → span ≡ span_answer l m → 0 < span.cycle → place ≡ s % span.cycle → below ≡ lower l place → r ≡ held_answer l below m₀ → r ≡ held_answer l s m
+  held_through l s place below span r is some at step asked =
+      placed_held m through_sound l s span r is some (λ there. asked ∙ ap (λ x. held_answer l x m₀) (step ∙ ap (lower l) at) ∙ through_held l (s % span.cycle) there)
 
 -- what stands under one number is replaced above as below
-pub replaced_through : (up : Window → Window) (n : ℕ) (o o₀ : Option Window) (windows : ℕ → Option Window) → option_map up o₀ ≡ o → (k : ℕ) → option_map up (replaced n o₀ windows k) ≡ replaced n o (λ j. option_map up (windows j)) k
-replaced_through up n o o₀ windows is k = go (eqb k n)
+pub replaced_through : (up : Window → Window) (n : ℕ) (o : Option Window) (windows : ℕ → Option Window) (k : ℕ) → option_map up (replaced n o windows k) ≡ replaced n (option_map up o) (λ j. option_map up (windows j)) k
+replaced_through up n o windows k = go (eqb k n)
   where
-    go : (v : Bool) → option_map up (cond v o₀ (windows k)) ≡ cond v o (option_map up (windows k))
-    go true = is
+    go : (v : Bool) → option_map up (cond v o (windows k)) ≡ cond v (option_map up o) (option_map up (windows k))
+    go true = refl
     go false = refl
 
 -- one window more or less is one of P too
@@ -156,39 +132,27 @@ pub each_without : (m : Meaning) (n : ℕ) (P : Window → Type 0) → EachStand
 each_without m n P each k w stands = stands_with m n None k w (P w) stands (λ _ is. absurd (let z : ◌≡◌ {A = ℕ} 0 1 = cc in omega arith)) (λ _ was. each k w was)
 
 -- what a call on the book below does to the book above, which means what above says of the one below as long as this is Tied
-module _ {up down : Window → Window} (above : Meaning → Meaning) (Tied : Meaning → Type 0) (m₀ m₀' : Meaning) (t : Through up down m₀ (above m₀)) (tied : Tied m₀) (K : Type 0) (n : ℕ) where
-  pub booked_through : (w x : Window) (r : Result (Unit {0}) BookFault) → Proper (above m₀) n w → x ≡ down w → above (with n (Some (down w)) m₀) ≡ with n (Some w) (above m₀) → Tied (with n (Some (down w)) m₀) → Did r (book_answer n x m₀) m₀' (book_after n x m₀) K → Did r (book_answer n w (above m₀)) (above m₀') (book_after n w (above m₀)) (K × Tied m₀')
-  booked_through w x r proper low sees stays called =
+module _ {up down : Window → Window} {lower : ℕ → ℕ → ℕ} (above : Meaning → Meaning) (Tied : Meaning → Type 0) (m₀ m₀' : Meaning) (t : Through up down lower m₀ (above m₀)) (tied : Tied m₀) (K : Type 0) (n : ℕ) (sees : (o : Option Window) → above (with n o m₀) ≡ with n (option_map up o) (above m₀)) where
+  -- a window that passes the test of the book above is small enough to be handed down, and the book below books it
+  pub booked_through : (w x : Window) (span : Span) (r : Result (Unit {0}) BookFault) → span ≡ span_answer w.link (above m₀) → Ok tt ≡ misfit n w span.cycle span.rest → ((down w).start < 2 ^ 32 → (down w).length < 2 ^ 32 → (down w).period < 2 ^ 32 → x ≡ down w) → (Suits (above m₀) w → Tied (with n (Some (down w)) m₀)) → Did r (book_answer n x m₀) m₀' (book_after n x m₀) K → Did r (book_answer n w (above m₀)) (above m₀') (book_after n w (above m₀)) (K × Tied m₀')
+  booked_through w x span r is passed low stays called =
+      let proper = fitting (above m₀) n w span is (sym passed) in
+      let (below, same_window) = t.below w proper.suits in
+      let short = period_short m₀ t.inner (down w) below in
+      let ends = below.form.ends in
       let At : Window → Type 0 = λ y. Did r (book_answer n y m₀) m₀' (book_after n y m₀) K in
-      let did = subst At low called in
+      let did = subst At (low (omega arith) (omega arith) (omega arith)) called in
       let same = through_answer t n w proper in
       record {
         answer = did.answer ∙ same;
-        after = ap above did.after ∙ go (book_answer n (down w) m₀) ∙ ap (λ a. changed a (with n (Some w) (above m₀)) (above m₀)) same;
-        kept = (did.kept, subst Tied (sym did.after) (keeps (book_answer n (down w) m₀)));
+        after = ap above did.after ∙ go (sees (Some (down w)) ∙ ap (λ v. with n (Some v) (above m₀)) same_window) (book_answer n (down w) m₀) ∙ ap (λ a. changed a (with n (Some w) (above m₀)) (above m₀)) same;
+        kept = (did.kept, subst Tied (sym did.after) (keeps (stays proper.suits) (book_answer n (down w) m₀)));
       }
     where
-      go : (a : Result (Unit {0}) BookFault) → above (changed a (with n (Some (down w)) m₀) m₀) ≡ changed a (with n (Some w) (above m₀)) (above m₀)
-      go (Ok x) = sees
-      go (Err e) = refl
+      go : above (with n (Some (down w)) m₀) ≡ with n (Some w) (above m₀) → (a : Result (Unit {0}) BookFault) → above (changed a (with n (Some (down w)) m₀) m₀) ≡ changed a (with n (Some w) (above m₀)) (above m₀)
+      go seen (Ok x) = seen
+      go seen (Err e) = refl
 
-      keeps : (a : Result (Unit {0}) BookFault) → Tied (changed a (with n (Some (down w)) m₀) m₀)
-      keeps (Ok x) = stays
-      keeps (Err e) = tied
-
-  pub lifted_through : (r r₀ : Result Window BookFault) → r ≡ on_ok up r₀ → above (with n None m₀) ≡ with n None (above m₀) → Tied (with n None m₀) → Did r₀ (lift_answer n m₀) m₀' (lift_after n m₀) K → Did r (lift_answer n (above m₀)) (above m₀') (lift_after n (above m₀)) (K × Tied m₀')
-  lifted_through r r₀ is sees stays did =
-      let same = through_lift up m₀ (above m₀) n (t.windows n) in
-      record {
-        answer = is ∙ ap (on_ok up) did.answer ∙ same;
-        after = ap above did.after ∙ go (lift_answer n m₀) ∙ ap (λ a. changed a (with n None (above m₀)) (above m₀)) same;
-        kept = (did.kept, subst Tied (sym did.after) (keeps (lift_answer n m₀)));
-      }
-    where
-      go : (a : Result Window BookFault) → above (changed a (with n None m₀) m₀) ≡ changed (on_ok up a) (with n None (above m₀)) (above m₀)
-      go (Ok x) = sees
-      go (Err e) = refl
-
-      keeps : (a : Result Window BookFault) → Tied (changed a (with n None m₀) m₀)
-      keeps (Ok x) = stays
-      keeps (Err e) = tied
+      keeps : Tied (with n (Some (down w)) m₀) → (a : Result (Unit {0}) BookFault) → Tied (changed a (with n (Some (down w)) m₀) m₀)
+      keeps more (Ok x) = more
+      keeps more (Err e) = tied

@@ -1,24 +1,17 @@
 -- A grain layer is a book that is kept in the one below.
-use Rattle.std.specs.Prelude.{◌≡◌, ℕ, ◌+◌, ◌-◌, ◌*◌, ◌/◌, ◌%◌, ◌^◌, ◌<◌, ◌≤◌, Bool, true, false, cond, ◌&&◌, ltb, Some, None, Ok, Result, ◌==◌, ◌≢◌, nat_lt, refl}
+use Rattle.std.specs.Prelude.{◌≡◌, ℕ, ◌+◌, ◌-◌, ◌*◌, ◌/◌, ◌%◌, ◌<◌, ◌≤◌, Bool, true, false, cond, ◌&&◌, ltb, Some, None, Option, ◌==◌, nat_lt, refl}
 use Rattle.std.proofs.Common.{sym, ap, subst, ◌∙◌, add-mul, mul_assoc, mul-pos, mul-one, mul-le-mul_left, mul-le-mul_right, le_of_mul-le-mul_right, mul-div_cancel, div-mul-le_self, div-le_self, le-div_iff_mul-le, arith}
 use Rattle.std.proofs.Math.Nat.{mul-mod_left}
 use Rattle.std.proofs.lemmas.Bool.Decides.{nat_tests}
-use Rattle.book.specs.Calls.{misfit, book_answer, book_after, lift_answer, lift_after, held_answer, span_answer, holds_windows}
+use Rattle.std.specs.Option.{option_map}
 use Rattle.book.specs.Form.{GoodForm}
 use Rattle.book.specs.Holding.{Holds}
 use Rattle.book.specs.Meaning.{Meaning, linked, with}
 use Rattle.book.specs.Sound.{Suits, Sound}
-use Rattle.book.specs.Steps.{Did}
-use Rattle.book.specs.declared.Span.{Span}
-use Rattle.book.specs.declared.BookFault.{BookFault}
 use Rattle.book.specs.declared.Window.{Window}
 use Rattle.book.proofs.Clashing.{both, cycle_some}
-use Rattle.book.proofs.Fitting.{fitting, period_short}
-use Rattle.book.proofs.Holders.{held_none, held_in_cycle}
-use Rattle.book.proofs.NoWindows.{none_stands}
-use Rattle.book.proofs.Through.{Through, through_sound, through_held, replaced_through, each_with, each_without, booked_through, lifted_through, on_ok}
-use Rattle.layer.specs.Grains.{rounded_up, coarse_cycle, coarse_rest, finer, coarser, grain_meaning, Whole, GrainTied, can_make_grain}
-use Rattle.layer.specs.Vacant.{unless}
+use Rattle.book.proofs.Through.{Through, replaced_through, each_with, each_without}
+use Rattle.layer.specs.Grains.{rounded_up, coarse_cycle, coarse_rest, finer, coarser, grain_meaning, Whole, GrainTied}
 use Rattle.layer.specs.Rounding.{whole, grain_some, quotient_some, rounded_covers, rounded_within, fine_before, coarse_before}
 
 -- a link that is there in steps of a grain: the grain is not 0, and divides the cycle
@@ -134,17 +127,6 @@ module _ (grain : ℕ → ℕ) where
       (k, (low, coarse_before a w.length r g (t / g) some (omega arith)))
 
   module _ (m : Meaning) where
-    -- the same on link l of a book, whose rest is rounded up
-    fine_at : (w : Window) (l s : ℕ) → w.link ≡ l → Fits (grain l) (m.cycle l) → Holds w ((grain_meaning grain m).rest l) s → Holds (finer grain w) (m.rest l) (s * grain l)
-    fine_at w l s link =
-        let At : ℕ → Type 0 = λ i. Fits (grain i) (m.cycle i) → Holds w ((grain_meaning grain m).rest i) s → Holds (finer grain w) (m.rest i) (s * grain i) in
-        subst At link (λ fits held. let Rest : ℕ → Type 0 = λ r. Holds w r s in held_finer w (m.rest w.link) s fits.some (subst Rest (rest_is (grain w.link) (m.cycle w.link) (m.rest w.link) fits) held))
-
-    coarse_at : (w : Window) (l t : ℕ) → w.link ≡ l → Fits (grain l) (m.cycle l) → Holds (finer grain w) (m.rest l) t → Holds w ((grain_meaning grain m).rest l) (t / grain l)
-    coarse_at w l t link =
-        let At : ℕ → Type 0 = λ i. Fits (grain i) (m.cycle i) → Holds (finer grain w) (m.rest i) t → Holds w ((grain_meaning grain m).rest i) (t / grain i) in
-        subst At link (λ fits held. let Rest : ℕ → Type 0 = λ r. Holds w r (t / grain w.link) in subst Rest (sym (rest_is (grain w.link) (m.cycle w.link) (m.rest w.link) fits)) (finer_held w (m.rest w.link) t fits.some held))
-
     fits_suits : (w : Window) → Suits (grain_meaning grain m) w → Fits (grain w.link) (m.cycle w.link)
     fits_suits w suits = fits_from (grain w.link) (m.cycle w.link) (cycle_some (grain_meaning grain m) w.link suits.link)
 
@@ -198,7 +180,8 @@ module _ (grain : ℕ → ℕ) where
             rounded_within r g r some (omega (arith, mul-one r))
         go false is = omega arith
 
-    pub grain_through : Sound m → GrainTied grain m → Through (coarser grain) (finer grain) m (grain_meaning grain m)
+    -- the book in steps of the grain is kept in the one below, where a step is the first of as many
+    pub grain_through : Sound m → GrainTied grain m → Through (coarser grain) (finer grain) (λ l s. s * grain l) m (grain_meaning grain m)
     grain_through sound tied = record {
       inner = sound;
       cycles = λ l. omega (arith, cycle_within (grain l) (m.cycle l), sound.cycles l);
@@ -207,89 +190,21 @@ module _ (grain : ℕ → ℕ) where
       link = λ w. refl;
       above = λ k v stands. (coarse_suits v (tied k v stands) (sound.proper k v stands).suits, finer-coarser v (tied k v stands));
       below = λ w suits. (fine_suits w suits, coarser-finer w (fits_suits w suits).some);
-      meets = λ v w _ suits same (s, (one, other)). let fits = fits_suits w suits in (s * grain w.link, (fine_at v w.link s same fits one, fine_at w w.link s refl fits other));
-      met = λ v w _ suits same (t, (one, other)). let fits = fits_suits w suits in (t / grain w.link, (coarse_at v w.link t same fits one, coarse_at w w.link t refl fits other));
+      raise = λ l s. s / grain l;
+      raised = λ l s there. mul-div_cancel s (fits_from (grain l) (m.cycle l) (cycle_some (grain_meaning grain m) l there)).some;
+      falls = λ w suits s held. let fits = fits_suits w suits in held_finer w (m.rest w.link) s fits.some (subst (λ r. Holds w r s) (rest_is (grain w.link) (m.cycle w.link) (m.rest w.link) fits) held);
+      rises = λ w suits s held. let fits = fits_suits w suits in subst (λ r. Holds w r (s / grain w.link)) (sym (rest_is (grain w.link) (m.cycle w.link) (m.rest w.link) fits)) (finer_held w (m.rest w.link) s fits.some held);
     }
 
-    -- the layer is sound where the book below is
-    pub grain_sound : Sound m → GrainTied grain m → Sound (grain_meaning grain m)
-    grain_sound sound tied = through_sound (grain_through sound tied)
-
-    -- a step is held by the window that holds the first of its steps below
-    pub grain_held : Sound m → GrainTied grain m → (l s : ℕ) → Fits (grain l) (m.cycle l) → held_answer l (s * grain l) m ≡ held_answer l s (grain_meaning grain m)
-    grain_held sound tied l s fits =
-        through_held (grain_through sound tied) l s (s * grain l)
-        (λ k v there link held.
-        let At : Window → Type 0 = λ x. Holds x (m.rest l) (s * grain l) in
-        subst At (finer-coarser v (tied k v there)) (fine_at (coarser grain v) l s link fits held))
-        (λ k v there link held.
-        let At : Window → Type 0 = λ x. Holds x (m.rest l) (s * grain l) in
-        let Step : ℕ → Type 0 = Holds (coarser grain v) ((grain_meaning grain m).rest l) in
-        subst Step (mul-div_cancel s fits.some) (coarse_at (coarser grain v) l (s * grain l) link fits (subst At (sym (finer-coarser v (tied k v there))) held)))
-
-    -- no step of an absent link is held
-    pub absent_held : Sound m → GrainTied grain m → (l s : ℕ) → (linked l ≡ true → coarse_cycle (grain l) (m.cycle l) ≡ 0) → held_answer l s (grain_meaning grain m) ≡ None
-    absent_held sound tied l s none =
-        held_none (grain_meaning grain m) l s (λ k (w, (stands, (link, held))).
-        let suits = ((grain_sound sound tied).proper k w stands).suits in
-        let there = cycle_some (grain_meaning grain m) w.link suits.link in
-        let on = ap linked (sym link) ∙ (both (linked w.link) _ suits.link).0 in
-        omega (arith, none on, ap (λ i. coarse_cycle (grain i) (m.cycle i)) link))
-
-    -- the answer by the cycle of the link: none where it is 0, and otherwise that of the place in the cycle below
-    pub nowhere_held : Sound m → GrainTied grain m → (l s : ℕ) (span : Span) → span ≡ span_answer l (grain_meaning grain m) → span.cycle ≡ 0 → None ≡ held_answer l s (grain_meaning grain m)
-    nowhere_held sound tied l s span is none = sym (absent_held sound tied l s (λ on. sym (cycle on) ∙ none))
-      where
-        At : Bool → Span
-        At v = cond v (record { cycle = (grain_meaning grain m).cycle l; rest = (grain_meaning grain m).rest l }) (record { cycle = 0; rest = 0 })
-
-        cycle : linked l ≡ true → span.cycle ≡ (grain_meaning grain m).cycle l
-        cycle on = ap (λ x. x.cycle) (is ∙ ap At on)
-
-    pub somewhere_held : Sound m → GrainTied grain m → (l s place : ℕ) (span : Span) → span ≡ span_answer l (grain_meaning grain m) → (span.cycle ≢ 0) → place ≡ s % span.cycle * grain l → held_answer l place m ≡ held_answer l s (grain_meaning grain m)
-    somewhere_held sound tied l s place span is some at = go (linked l) refl is
-      where
-        go : (v : Bool) → linked l ≡ v → span ≡ cond v (record { cycle = (grain_meaning grain m).cycle l; rest = (grain_meaning grain m).rest l }) (record { cycle = 0; rest = 0 }) → held_answer l place m ≡ held_answer l s (grain_meaning grain m)
-        go true on same =
-            let cycle : span.cycle ≡ (grain_meaning grain m).cycle l = ap (λ x. x.cycle) same in
-            let fits = fits_from (grain l) (m.cycle l) (omega (arith, cycle, some)) in
-            ap (λ x. held_answer l x m) (at ∙ ap (λ x. s % x * grain l) cycle)
-            ∙ grain_held sound tied l (s % (grain_meaning grain m).cycle l) fits
-            ∙ sym (held_in_cycle (grain_meaning grain m) (grain_sound sound tied) l s)
-        go false off same = absurd (some (ap (λ x. x.cycle) same))
+    -- what stands under one number is seen in the other form
+    pub grain_replaced : (n : ℕ) (o : Option Window) → grain_meaning grain (with n o m) ≡ with n (option_map (coarser grain) o) (grain_meaning grain m)
+    grain_replaced n o = λ i. record { windows = λ k. replaced_through (coarser grain) n o m.windows k i; cycle = (grain_meaning grain m).cycle; rest = (grain_meaning grain m).rest }
 
     -- one window more or less
-    pub grain_with : (n : ℕ) (w : Window) → 0 < grain w.link → grain_meaning grain (with n (Some (finer grain w)) m) ≡ with n (Some w) (grain_meaning grain m)
-    grain_with n w some =
-        let same = replaced_through (coarser grain) n (Some w) (Some (finer grain w)) m.windows (ap Some (coarser-finer w some)) in
-        λ i. record { windows = λ k. same k i; cycle = (grain_meaning grain m).cycle; rest = (grain_meaning grain m).rest }
+    pub grain_put : (n : ℕ) (w : Window) → GrainTied grain m → Suits (grain_meaning grain m) w → GrainTied grain (with n (Some (finer grain w)) m)
+    grain_put n w tied suits =
+        let g = grain w.link in
+        each_with m n (finer grain w) (λ v. Whole (grain v.link) v) (record { start = mul-mod_left w.start g; length = mul-mod_left w.length g; period = mul-mod_left w.period g }) tied
 
-    pub grain_without : (n : ℕ) → grain_meaning grain (with n None m) ≡ with n None (grain_meaning grain m)
-    grain_without n =
-        let same = replaced_through (coarser grain) n None None m.windows refl in
-        λ i. record { windows = λ k. same k i; cycle = (grain_meaning grain m).cycle; rest = (grain_meaning grain m).rest }
-
-    fine_whole : (w : Window) → Whole (grain w.link) (finer grain w)
-    fine_whole w = record { start = mul-mod_left w.start (grain w.link); length = mul-mod_left w.length (grain w.link); period = mul-mod_left w.period (grain w.link) }
-
-    -- a layer that can be made over a sound book is tied to it
-    pub grain_made : Sound m → can_make_grain m ≡ Ok tt → GrainTied grain m
-    grain_made sound can = go (holds_windows m) refl can
-      where
-        go : (b : Bool) → holds_windows m ≡ b → unless b ≡ Ok tt → GrainTied grain m
-        go false empty is = λ k w stands. absurd (let free = none_stands m sound empty k in let z : ◌≡◌ {A = ℕ} 0 1 = cc in omega arith)
-        go true some is = absurd (let z : ◌≡◌ {A = ℕ} 0 1 = cc in omega arith)
-
-    module _ (m' : Meaning) (sound : Sound m) (tied : GrainTied grain m) (K : Type 0) (n : ℕ) where
-      -- a window that passes the layer's test is the book's below
-      pub grain_booked : (w x : Window) (span : Span) (r : Result (Unit {0}) BookFault) → span ≡ span_answer w.link (grain_meaning grain m) → Ok tt ≡ misfit n w span.cycle span.rest → (w.start * grain w.link < 2 ^ 32 → w.length * grain w.link < 2 ^ 32 → w.period * grain w.link < 2 ^ 32 → x ≡ finer grain w) → Did r (book_answer n x m) m' (book_after n x m) K → Did r (book_answer n w (grain_meaning grain m)) (grain_meaning grain m') (book_after n w (grain_meaning grain m)) (K × GrainTied grain m')
-      grain_booked w x span r is passed low did =
-          let proper = fitting (grain_meaning grain m) n w span is (sym passed) in
-          let t = grain_through sound tied in
-          let below = fine_suits w proper.suits in
-          let short : w.period * grain w.link ≤ 1000000 = period_short m sound (finer grain w) below in
-          let ends = below.form.ends in
-          booked_through (grain_meaning grain) (GrainTied grain) m m' t tied K n w x r proper (low (omega arith) (omega arith) (omega arith)) (grain_with n w (fits_suits w proper.suits).some) (each_with m n (finer grain w) (λ v. Whole (grain v.link) v) (fine_whole w) tied) did
-
-      pub grain_lifted : (r r₀ : Result Window BookFault) → r ≡ on_ok (coarser grain) r₀ → Did r₀ (lift_answer n m) m' (lift_after n m) K → Did r (lift_answer n (grain_meaning grain m)) (grain_meaning grain m') (lift_after n (grain_meaning grain m)) (K × GrainTied grain m')
-      grain_lifted r r₀ is did = lifted_through (grain_meaning grain) (GrainTied grain) m m' (grain_through sound tied) tied K n r r₀ is (grain_without n) (each_without m n (λ v. Whole (grain v.link) v) tied) did
+    pub grain_taken : (n : ℕ) → GrainTied grain m → GrainTied grain (with n None m)
+    grain_taken n tied = each_without m n (λ v. Whole (grain v.link) v) tied

@@ -3,6 +3,5 @@ pub mod Vacancy
 pub mod Rests
 pub mod Grains
 pub mod Graining
-pub mod Vacant
 pub mod Rounding
 pub mod Resting

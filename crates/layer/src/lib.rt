@@ -2,9 +2,13 @@
 #![tactic(auto)]
 
 mod grain;
+mod layer;
 mod per_link;
 mod rest;
+mod view;
 
-pub use grain::GrainLayer;
+pub use grain::{Grain, GrainLayer};
+pub use layer::Layer;
 pub use per_link::PerLink;
-pub use rest::RestLayer;
+pub use rest::{Extra, RestLayer};
+pub use view::View;
