@@ -105,7 +105,7 @@ module _ {up down : Window → Window} {lower : ℕ → ℕ → ℕ} {m₀ m : M
       λ i. result_and (fits i) (unmet n (through_met w proper.suits i))
 
   -- a step of a link that is there is held as one of the book below
-  through_held : (l s : ℕ) → present m l ≡ true → held_answer l (lower l s) m₀ ≡ held_answer l s m
+  pub through_held : (l s : ℕ) → present m l ≡ true → held_answer l (lower l s) m₀ ≡ held_answer l s m
   through_held l s on =
       held_like m₀ m l (lower l s) s
       (λ k held. subst (λ i. HoldsAt m l i k) (t.raised l s on) (held_above l (lower l s) k held))

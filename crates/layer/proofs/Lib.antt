@@ -1,2 +1,3 @@
 pub mod Alike
 pub mod Made
+pub mod Theorems
