@@ -1,5 +1,6 @@
 -- A window is refused as a clash exactly when it would meet another.
 use Rattle.std.proofs.Common.{◌≡◌, ℕ, ◌<◌, ◌≤◌, Bool, true, false, cond, not, ◌&&◌, eqb, is_some, Some, None, Ok, Err, Decides, Option, Result, sym, refl, ap, ◌∙◌, subst, arith}
+use Rattle.std.proofs.lemmas.Bool.{and_parts}
 use Rattle.std.proofs.lemmas.Bool.Decides.{nat_tests, Decides-eqb, not_from_Decides}
 use Rattle.std.specs.Result.{result_and}
 use Rattle.book.specs.declared.fault.BookFault.{BookFault}
@@ -13,17 +14,12 @@ use Rattle.book.specs.Sound.{Stands, Suits, Proper, Sound, WouldMeet, Clashes, C
 use Rattle.book.proofs.Lowest.{Found, nowhere, somewhere, found}
 use Rattle.book.proofs.Unbounded.{meets_decides}
 
-pub both : (x y : Bool) → (x && y) ≡ true → (x ≡ true) × (y ≡ true)
-both true true is = (refl, refl)
-both true false is = (refl, is)
-both false y is = (is, absurd (let z : ◌≡◌ {A = ℕ} 0 1 = cc in omega arith))
-
 pub form_good : (cycle rest : ℕ) (w : Window) → well_formed cycle rest w ≡ true → GoodForm cycle rest w
 form_good cycle rest w is = record { long = grind (arith, nat_tests); again = grind (arith, nat_tests); whole = grind (arith, nat_tests); ends = grind (arith, nat_tests) }
 
 -- a link that is there has a cycle
 pub cycle_some : (m : Meaning) (l : ℕ) → present m l ≡ true → 0 < m.cycle l
-cycle_some m l is = let parts = both (linked l) _ is in grind (arith, nat_tests)
+cycle_some m l is = let parts = and_parts (linked l) _ is in grind (arith, nat_tests)
 
 -- nothing but a clash can be said against the window: it would be proper, and its number is free
 pub record Fit (m : Meaning) (n : ℕ) (w : Window) : Type 0 where
@@ -40,11 +36,11 @@ fit m n w is = go (numbered n && present m w.link) refl (well_formed (m.cycle w.
   where
     go : (a : Bool) → (numbered n && present m w.link) ≡ a → (b : Bool) → well_formed (m.cycle w.link) (m.rest w.link) w ≡ b → (o : Option Window) → m.windows n ≡ o → tests a b o n (m.rest w.link) ≡ Ok tt → Fit m n w
     go true there true good None free is =
-        let parts = both (numbered n) (present m w.link) there in
+        let parts = and_parts (numbered n) (present m w.link) there in
         record { proper = record { number = parts.0; suits = record { link = parts.1; form = form_good _ _ w good } }; free = free }
-    go true there true good (Some v) taken is = absurd (let z : ◌≡◌ {A = ℕ} 0 1 = cc in omega arith)
-    go true there false bad o at is = absurd (let z : ◌≡◌ {A = ℕ} 0 1 = cc in omega arith)
-    go false absent b form o at is = absurd (let z : ◌≡◌ {A = ℕ} 0 1 = cc in omega arith)
+    go true there true good (Some v) taken is = absurd (grind arith)
+    go true there false bad o at is = absurd (grind arith)
+    go false absent b form o at is = absurd (grind arith)
 
 -- an earlier cause is no clash
 unfit_no_clash : (m : Meaning) (n : ℕ) (w : Window) (i k : ℕ) → unfit n w m ≡ Err (Clash i k) → ⊥
@@ -52,10 +48,10 @@ unfolding unfit
 unfit_no_clash m n w i k is = go (numbered n && present m w.link) (well_formed (m.cycle w.link) (m.rest w.link) w) (m.windows n) is
   where
     go : (a b : Bool) (o : Option Window) → tests a b o n (m.rest w.link) ≡ Err (Clash i k) → ⊥
-    go true true None is = let z : ◌≡◌ {A = ℕ} 0 1 = cc in omega arith
-    go true true (Some v) is = let z : ◌≡◌ {A = ℕ} 0 1 = cc in omega arith
-    go true false o is = let z : ◌≡◌ {A = ℕ} 0 1 = cc in omega arith
-    go false b o is = let z : ◌≡◌ {A = ℕ} 0 1 = cc in omega arith
+    go true true None is = grind arith
+    go true true (Some v) is = grind arith
+    go true false o is = grind arith
+    go false b o is = grind arith
 
 -- a number that a window may have
 pub number_range : (k : ℕ) → numbered k ≡ true → (1 ≤ k) × (k ≤ 256)
@@ -75,10 +71,10 @@ module _ {m : Meaning} (sound : Sound m) {w : Window} (suits : Suits m w) where
   meets_standing_lem k = go (m.windows k) refl
     where
       go : (o : Option Window) → m.windows k ≡ o → Decides (meets_standing m w o) (WouldMeet m w k)
-      go None free = ((λ is. absurd (let z : ◌≡◌ {A = ℕ} 0 1 = cc in omega arith)), (λ (v, (stands, more)). absurd (let z : ◌≡◌ {A = ℕ} 0 1 = cc in omega arith)))
+      go None free = ((λ is. absurd (grind arith)), (λ (v, (stands, more)). absurd (grind arith)))
       go (Some v) stands = (
         (λ is.
-            let parts = both (eqb v.link w.link) _ is in
+            let parts = and_parts (eqb v.link w.link) _ is in
             let same = (Decides-eqb v.link w.link).0 parts.0 in
             (v, (stands, (same, (meeting k v stands same).0 parts.1)))),
         (λ (u, (there, (same, met))).
@@ -117,7 +113,7 @@ pub clash_exactly : (m : Meaning) (n : ℕ) (w : Window) (r : Result (Unit {0}) 
 clash_exactly m n w r sound is = record { refused = λ i k clash. back i k (unfit n w m) refl (first_met m w) refl (sym is ∙ clash); refuses = λ fits k would. there fits k would (first_met m w) refl }
   where
     back : (i k : ℕ) (u : Result (Unit {0}) BookFault) → unfit n w m ≡ u → (o : Option ℕ) → first_met m w ≡ o → result_and u (unmet n o) ≡ Err (Clash i k) → (i ≡ n) × Clashes m n w k
-    back i k (Ok x) fits None none clash = absurd (let z : ◌≡◌ {A = ℕ} 0 1 = cc in omega arith)
+    back i k (Ok x) fits None none clash = absurd (grind arith)
     back i k (Ok x) fits (Some j) some clash =
         let same : i ≡ n = cc in
         let number : j ≡ k = cc in

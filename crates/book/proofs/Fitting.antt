@@ -1,5 +1,6 @@
 -- The causes before a clash, from the span of the window's link and what stands under its number.
 use Rattle.std.proofs.Common.{◌≡◌, ℕ, ◌≤◌, Bool, true, false, cond, not, ◌&&◌, ltb, is_some, Ok, Err, Result, sym, refl, ap, ◌∙◌, ⊎_elim, mod-eq_of_lt, arith}
+use Rattle.std.proofs.lemmas.Bool.{and_parts, false≢true}
 use Rattle.std.proofs.lemmas.Bool.Decides.{nat_tests, leb_tells}
 use Rattle.std.specs.Result.{result_and}
 use Rattle.book.specs.declared.span.Span.{Span}
@@ -10,7 +11,7 @@ use Rattle.book.specs.Calls.{misfit, unfit, span_answer}
 use Rattle.book.specs.Form.{GoodForm, well_formed}
 use Rattle.book.specs.Meaning.{Meaning, numbered, linked}
 use Rattle.book.specs.Sound.{Suits, Proper, Sound}
-use Rattle.book.proofs.Clashing.{both, form_good, cycle_some}
+use Rattle.book.proofs.Clashing.{form_good, cycle_some}
 
 -- nothing is said against a number that is free
 abbrev pub free : ℕ → Bool → Result (Unit {0}) BookFault
@@ -50,17 +51,17 @@ fitting m n w span is ok = go (linked w.link) refl is
   where
     passed : (there good : Bool) (rest : ℕ) → early there good n rest ≡ Ok tt → (there ≡ true) × (good ≡ true)
     passed true true rest is = (refl, refl)
-    passed true false rest is = absurd (let z : ◌≡◌ {A = ℕ} 0 1 = cc in omega arith)
-    passed false good rest is = absurd (let z : ◌≡◌ {A = ℕ} 0 1 = cc in omega arith)
+    passed true false rest is = absurd (grind arith)
+    passed false good rest is = absurd (grind arith)
 
     go : (v : Bool) → linked w.link ≡ v → span ≡ cond v (record { cycle = m.cycle w.link; rest = m.rest w.link }) (record { cycle = 0; rest = 0 }) → Proper m n w
     go true there is =
         let parts = passed (numbered n && ltb 0 (m.cycle w.link)) (well_formed (m.cycle w.link) (m.rest w.link) w) (m.rest w.link) (ap (λ s. misfit n w s.cycle s.rest) (sym is) ∙ ok) in
-        let number = both (numbered n) _ parts.0 in
+        let number = and_parts (numbered n) _ parts.0 in
         record { number = number.0; suits = record { link = λ i. there i && number.1 i; form = form_good _ _ w parts.1 } }
     go false absent is =
         let parts = passed (numbered n && ltb 0 0) (well_formed 0 0 w) 0 (ap (λ s. misfit n w s.cycle s.rest) (sym is) ∙ ok) in
-        absurd (let never = both (numbered n) false parts.0 in let z : ◌≡◌ {A = ℕ} 0 1 = cc never.1 in omega arith)
+        absurd (false≢true (and_parts (numbered n) false parts.0).1)
 
 -- a window that fails that test has that cause, and one that passes it only its number's
 pub unfit_early : (m : Meaning) (n : ℕ) (w : Window) (span : Span) (e : BookFault) → span ≡ span_answer w.link m → Err e ≡ misfit n w span.cycle span.rest → Err e ≡ unfit n w m

@@ -1,5 +1,6 @@
 -- The number that is answered to held is the one whose window holds the step.
 use Rattle.std.proofs.Common.{◌≡◌, ℕ, ◌%◌, ◌<◌, Bool, true, false, cond, ◌&&◌, eqb, ltb, Some, None, Decides, Option, sym, refl, ap, ◌∙◌, subst, arith}
+use Rattle.std.proofs.lemmas.Bool.{and_parts, false≢true}
 use Rattle.std.proofs.lemmas.Bool.Decides.{nat_tests, Decides-eqb, Decides-like, not_from_Decides, same_from_decides}
 use Rattle.book.specs.declared.span.Span.{Span}
 use Rattle.book.specs.declared.window.Window.{Window}
@@ -9,7 +10,7 @@ use Rattle.book.specs.Holding.{Holds}
 use Rattle.book.specs.Lowest.{lowest}
 use Rattle.book.specs.Meaning.{Meaning, linked, present}
 use Rattle.book.specs.Sound.{Sound, Stands, HoldsAt, HeldExactly}
-use Rattle.book.proofs.Clashing.{both, number_range, cycle_some}
+use Rattle.book.proofs.Clashing.{number_range, cycle_some}
 use Rattle.book.proofs.Lowest.{Found, nowhere, somewhere, found}
 use Rattle.book.proofs.Unbounded.{holds_decides, in_first_cycle, in_each_cycle}
 
@@ -18,10 +19,10 @@ holds_standing_lem : (m : Meaning) (l s k : ℕ) → Decides (holds_standing m l
 holds_standing_lem m l s k = go (m.windows k) refl
   where
     go : (o : Option Window) → m.windows k ≡ o → Decides (holds_standing m l s o) (HoldsAt m l s k)
-    go None free = ((λ is. absurd (let z : ◌≡◌ {A = ℕ} 0 1 = cc in omega arith)), (λ (w, (stands, more)). absurd (let z : ◌≡◌ {A = ℕ} 0 1 = cc in omega arith)))
+    go None free = ((λ is. absurd (grind arith)), (λ (w, (stands, more)). absurd (grind arith)))
     go (Some w) stands = (
       (λ is.
-          let parts = both (eqb w.link l) _ is in
+          let parts = and_parts (eqb w.link l) _ is in
           (w, (stands, ((Decides-eqb w.link l).0 parts.0, (holds_decides w (m.rest l) s).0 parts.1)))),
       (λ (v, (there, (same, held))).
           let equal : v ≡ w = cc in
@@ -77,12 +78,12 @@ module _ (m : Meaning) (sound : Sound m) (l s : ℕ) where
   -- the link of a window that holds a step is there
   held_linked : (k : ℕ) → HoldsAt m l s k → linked l ≡ true
   held_linked k (w, (stands, (link, held))) =
-      let there = (both (linked w.link) _ (sound.proper k w stands).suits.link).0 in
+      let there = (and_parts (linked w.link) _ (sound.proper k w stands).suits.link).0 in
       ap linked (sym link) ∙ there
 
   searched : (o : Option ℕ) → Found (λ k. holds_standing m l s (m.windows k)) 1 256 o → (k : ℕ) → (o ≡ Some k → HoldsAt m l s k) × (HoldsAt m l s k → o ≡ Some k)
   searched None (nowhere all) k = (
-    (λ is. absurd (let z : ◌≡◌ {A = ℕ} 0 1 = cc in omega arith)),
+    (λ is. absurd (grind arith)),
     (λ held.
         let (w, (stands, more)) = held in
         let range = number_range k (sound.proper k w stands).number in
@@ -102,8 +103,8 @@ module _ (m : Meaning) (sound : Sound m) (l s : ℕ) where
       go : (v : Bool) → linked l ≡ v → r ≡ cond v (lowest (λ k. holds_standing m l s (m.windows k)) 1 256) None → Exactly r
       go true there is = subst Exactly (sym is) (searched (lowest (λ k. holds_standing m l s (m.windows k)) 1 256) (found _ 256 1) k)
       go false absent is = (
-        (λ some. absurd (let z : ◌≡◌ {A = ℕ} 0 1 = cc in omega arith)),
-        (λ held. absurd (let there = held_linked k held in let z : ◌≡◌ {A = ℕ} 0 1 = cc in omega arith)),
+        (λ some. absurd (grind arith)),
+        (λ held. absurd (false≢true (sym absent ∙ held_linked k held))),
       )
 
   -- a link without a cycle is not there, and no step of it is held

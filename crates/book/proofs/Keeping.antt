@@ -15,8 +15,8 @@ pub empty_sound : (cycle rest : ℕ → ℕ) → ((l : ℕ) → cycle l ≤ 1000
 empty_sound cycle rest cycles rests = record {
   cycles = cycles;
   rests = rests;
-  proper = λ n w stands. absurd (let z : ◌≡◌ {A = ℕ} 0 1 = cc in omega arith);
-  apart = λ i j v w other stands. absurd (let z : ◌≡◌ {A = ℕ} 0 1 = cc in omega arith);
+  proper = λ n w stands. absurd (grind arith);
+  apart = λ i j v w other stands. absurd (grind arith);
 }
 
 -- what stands under number k after number n got another window or none: the new one, or what stood there
@@ -35,7 +35,7 @@ pub lift_sound : (m : Meaning) (n : ℕ) → Sound m → Sound (lift_after n m)
 lift_sound m n sound = go (lift_answer n m)
   where
     stood : (k : ℕ) (w : Window) → Stands (with n None m) k w → Stands m k w
-    stood k w stands = stands_with m n None k w _ stands (λ same none. absurd (let z : ◌≡◌ {A = ℕ} 0 1 = cc in omega arith)) (λ other was. was)
+    stood k w stands = stands_with m n None k w _ stands (λ same none. absurd (grind arith)) (λ other was. was)
 
     go : (r : Result Window BookFault) → Sound (changed r (with n None m) m)
     go (Ok w) = record {

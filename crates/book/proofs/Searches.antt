@@ -1,5 +1,6 @@
 -- The numbers from 1 to a last one, as `find` and `any` try them on a closure that answers a test.
 use Rattle.std.proofs.Common.{◌≡◌, ℕ, ◌+◌, ◌-◌, ◌<◌, ◌≤◌, Bool, true, false, is_some, Some, None, Option, MatchOption, IfSome, sym, refl, ap, ◌∙◌, subst, ⊎_elim, arith}
+use Rattle.std.proofs.lemmas.Bool.{true≢false}
 use Rattle.std.proofs.lemmas.Bool.Decides.{leb_tells, eqb_tells}
 use mathlib.Core.Logic.{◌⊎◌, inl, inr}
 use Rattle.std.proofs.iter.runs.Sources.{nat_range_inclusive_steps, inclusive_listed}
@@ -16,7 +17,7 @@ use Rattle.book.proofs.Lowest.{Found, nowhere, somewhere, found}
 
 -- what a run of the numbers says of the one at a place
 at_item : (o : Option ℕ) (x : ℕ) (P : ℕ → Type 0) → option_map (λ y. y) o ≡ Some x → IfSome o P → P x
-at_item None x P is holds = absurd (let z : ◌≡◌ {A = ℕ} 0 1 = cc in omega arith)
+at_item None x P is holds = absurd (grind arith)
 at_item (Some v) x P is holds = let same : v ≡ x = cc in subst P same holds
 
 some_item : (o : Option ℕ) (P : ℕ → Type 0) → IsSomeAnd o P → IfSome o P
@@ -26,13 +27,13 @@ some_item (Some v) P holds = holds
 -- there is only one lowest number
 one_found : (p : ℕ → Bool) (i n : ℕ) (o o' : Option ℕ) → Found p i n o → Found p i n o' → o ≡ o'
 one_found p i n None None (nowhere all) (nowhere all') = refl
-one_found p i n None (Some k) (nowhere all) (somewhere k' low high passes below) = absurd (let z : true ≡ false = sym passes ∙ all k low high in let z : ◌≡◌ {A = ℕ} 0 1 = cc in omega arith)
-one_found p i n (Some k) None (somewhere k' low high passes below) (nowhere all) = absurd (let z : true ≡ false = sym passes ∙ all k low high in let z : ◌≡◌ {A = ℕ} 0 1 = cc in omega arith)
+one_found p i n None (Some k) (nowhere all) (somewhere k' low high passes below) = absurd (true≢false (sym passes ∙ all k low high))
+one_found p i n (Some k) None (somewhere k' low high passes below) (nowhere all) = absurd (true≢false (sym passes ∙ all k low high))
 one_found p i n (Some j) (Some k) (somewhere j' low high passes below) (somewhere k' low' high' passes' below') =
     ⊎_elim
-    (λ fewer. absurd (let z : true ≡ false = sym passes ∙ below' j low fewer in let z : ◌≡◌ {A = ℕ} 0 1 = cc in omega arith))
+    (λ fewer. absurd (true≢false (sym passes ∙ below' j low fewer)))
     (λ rest. ⊎_elim
-    (λ more. absurd (let z : true ≡ false = sym passes' ∙ below k low' more in let z : ◌≡◌ {A = ℕ} 0 1 = cc in omega arith))
+    (λ more. absurd (true≢false (sym passes' ∙ below k low' more)))
     (λ same. ap Some same)
     rest)
     (either j k)
@@ -86,10 +87,8 @@ module _ (last : ℕ) (p : ℕ → Bool) (s : RangeInclusive ℕ) (one : range_i
           let (k, within, called) = any keeps in
           let here : k + 1 - 1 ≡ k = omega arith in
           let passes = tests (k + 1) (omega arith) (omega (arith, (counted u from).0)) true (at_place u from (λ x. Called g f (x, tt) true f) (k + 1) (omega arith) (omega arith) (some_item (u.at (k + 1 - 1)) (λ x. Called g f (x, tt) true f) (subst (λ i. IsSomeAnd (u.at i) (λ x. Called g f (x, tt) true f)) (sym here) called))) in
-          let never : true ≡ false = passes ∙ all (k + 1) (omega arith) (omega (arith, (counted u from).0)) in
-          absurd (let z : ◌≡◌ {A = ℕ} 0 1 = cc in omega arith)
+          absurd (true≢false (passes ∙ all (k + 1) (omega arith) (omega (arith, (counted u from).0))))
       go false (Some k) (whole, all) (somewhere k' low high passes below) =
           let len : u.len ≡ last + 1 - 1 = (counted u from).1 whole in
           let fails = tests k low (omega arith) false (at_place u from (λ x. Called g f (x, tt) false f) k low (omega arith) (all keeps (k - 1))) in
-          let never : true ≡ false = sym passes ∙ sym fails in
-          absurd (let z : ◌≡◌ {A = ℕ} 0 1 = cc in omega arith)
+          absurd (true≢false (sym passes ∙ sym fails))

@@ -38,7 +38,7 @@ module _ {up down : Window → Window} {lower : ℕ → ℕ → ℕ} {m₀ m : M
   kept_as k w stands = go (m₀.windows k) refl (sym (t.windows k) ∙ stands)
     where
       go : (o : Option Window) → m₀.windows k ≡ o → option_map up o ≡ Some w → (v : Window) × (Stands m₀ k v × (up v ≡ w))
-      go None free is = absurd (let z : ◌≡◌ {A = ℕ} 0 1 = cc in omega arith)
+      go None free is = absurd (grind arith)
       go (Some v) there is = (v, (there, cc))
 
   suits_above : (k : ℕ) (w : Window) → Stands m k w → Suits m w
@@ -129,7 +129,7 @@ pub each_with : (m : Meaning) (n : ℕ) (v : Window) (P : Window → Type 0) →
 each_with m n v P here each k w stands = stands_with m n (Some v) k w (P w) stands (λ _ is. let same : v ≡ w = cc in subst P same here) (λ _ was. each k w was)
 
 pub each_without : (m : Meaning) (n : ℕ) (P : Window → Type 0) → EachStanding m P → EachStanding (with n None m) P
-each_without m n P each k w stands = stands_with m n None k w (P w) stands (λ _ is. absurd (let z : ◌≡◌ {A = ℕ} 0 1 = cc in omega arith)) (λ _ was. each k w was)
+each_without m n P each k w stands = stands_with m n None k w (P w) stands (λ _ is. absurd (grind arith)) (λ _ was. each k w was)
 
 -- what a call on the book below does to the book above, which means what above says of the one below as long as this is Tied
 module _ {up down : Window → Window} {lower : ℕ → ℕ → ℕ} (above : Meaning → Meaning) (Tied : Meaning → Type 0) (m₀ m₀' : Meaning) (t : Through up down lower m₀ (above m₀)) (tied : Tied m₀) (K : Type 0) (n : ℕ) (sees : (o : Option Window) → above (with n o m₀) ≡ with n (option_map up o) (above m₀)) where

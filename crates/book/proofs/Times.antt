@@ -41,9 +41,3 @@ pub in_cycle : (c p s : ℕ) → c % p ≡ 0 → s ≡ (s / c * (c / p)) * p + s
 in_cycle c p s whole =
     let cycle : c / p * p ≡ c = omega (arith, div-add-mod' c p) in
     omega (arith, div-add-mod' s c, mul_assoc (s / c) (c / p) p ∙ ap (λ z. s / c * z) cycle)
-
--- a test of a late step by the time since the start alone
-pub late_test : (a p l s from since left : ℕ) → a ≤ s → since ≡ s - a → left ≡ since % p → l ≡ from → ltb left from ≡ (leb a s && ltb ((s - a) % p) l)
-late_test a p l s from since left late is leaves same =
-    let here : left ≡ (s - a) % p = leaves ∙ ap (λ z. z % p) is in
-    grind (arith, nat_tests)

@@ -3,7 +3,7 @@ ghost use Rattle.std.specs.Prelude.{◌≡◌};
 ghost use Rattle.book.specs.Numbered.{value_at, alike, changed_at};
 
 // A value for each number from 1 to `N`, and none for any other.
-#[derive(Clone, Copy)]
+#[derive(Clone, Copy, Debug, PartialEq, Eq)]
 pub struct Numbered<T, const N: usize> {
     values: [T; N],
 }

@@ -10,17 +10,15 @@ use Rattle.std.specs.Bool.{Decides}
 use Rattle.book.specs.declared.Window.{Window}
 use Rattle.book.specs.Form.{GoodForm}
 use Rattle.book.specs.Holding.{Meet, meets}
+use Rattle.book.proofs.Times.{Among}
 use Rattle.book.proofs.Unbounded.{meets_decides}
 use Rattle.periods.specs.Divisors.{Reaches}
 use Rattle.bottom.specs.Leading.{Leads}
 use Rattle.bottom.proofs.Remainders.{fewest}
 
--- s is one of the l steps from a + k * p on, for some k
-abbrev Among : ℕ → ℕ → ℕ → ℕ → Type 0
-Among a p l s = (k : ℕ) × ((a + k * p ≤ s) × (s < a + k * p + (l + 0)))
-
+-- a step that is among those of both, on a link without rest
 abbrev Both : (a p l b q m : ℕ) → Type 0
-Both a p l b q m = (s : ℕ) × (Among a p l s × Among b q m s)
+Both a p l b q m = (s : ℕ) × (Among a p (l + 0) s × Among b q (m + 0) s)
 
 -- the second window begins within the first
 first : (a p l b q m g r : ℕ) → 0 < m → Reaches p q g → (a + r) % g ≡ b % g → r < l → Both a p l b q m
@@ -56,14 +54,20 @@ common_decides a p l b q m g r u long broad reaches rless rleads uless uleads =
     (leb_tells i t))
     (Decides-or _ _ (Decides-ltb r l) (Decides-ltb u m))
 
--- v is the test by the common divisor g of the two periods
-module _ (one other : Window) (g r u : ℕ) (some : 0 < one.period → 0 < g) (reaches : 0 < one.period → 0 < other.period → Reaches one.period other.period g) (there : 0 < g → Leads one.start other.start g r) (back : 0 < g → Leads other.start one.start g u) (v : Bool) (is : v ≡ (ltb r one.length || ltb u other.length)) where
-  pub formula_always : 0 < one.length → 0 < one.period → 0 < other.length → 0 < other.period → Decides v (Meet 0 one other)
-  formula_always long again long' again' =
-      let ahead = there (some again) in
-      let behind = back (some again) in
-      Decides-at _ _ is (common_decides one.start one.period one.length other.start other.period other.length g r u long long' (reaches again again') ahead.below ahead.there behind.below behind.there)
+-- what `meets` promises of its answer v
+pub record Formula (one other : Window) (v : Bool) : Type 0 where
+  pub always : 0 < one.length → 0 < one.period → 0 < other.length → 0 < other.period → Decides v (Meet 0 one other)
+  pub searched : (cycle : ℕ) → 0 < cycle → GoodForm cycle 0 one → GoodForm cycle 0 other → v ≡ meets cycle 0 one other
 
-  pub formula_searched : (cycle : ℕ) → 0 < cycle → GoodForm cycle 0 one → GoodForm cycle 0 other → v ≡ meets cycle 0 one other
-  formula_searched cycle lasts good good' =
-      same_from_decides _ _ (formula_always good.long good.again good'.long good'.again) (meets_decides one other cycle 0 lasts good good')
+-- where v is the test by the common divisor g of the two periods
+pub formula : (one other : Window) (g r u : ℕ) → (0 < one.period → 0 < g) → (0 < one.period → 0 < other.period → Reaches one.period other.period g) → (0 < g → Leads one.start other.start g r) → (0 < g → Leads other.start one.start g u) → (v : Bool) → v ≡ (ltb r one.length || ltb u other.length) → Formula one other v
+formula one other g r u some reaches there back v is = record {
+  always = always;
+  searched = λ cycle lasts good good'. same_from_decides _ _ (always good.long good.again good'.long good'.again) (meets_decides one other cycle 0 lasts good good');
+}
+  where
+    always : 0 < one.length → 0 < one.period → 0 < other.length → 0 < other.period → Decides v (Meet 0 one other)
+    always long again long' again' =
+        let ahead = there (some again) in
+        let behind = back (some again) in
+        Decides-at _ _ is (common_decides one.start one.period one.length other.start other.period other.length g r u long long' (reaches again again') ahead.below ahead.there behind.below behind.there)

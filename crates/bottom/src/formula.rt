@@ -86,6 +86,7 @@ impl FormulaBook {
 impl Book for FormulaBook {
     ghost meaning = { λ b. meaning_of b.ledger };
 
+    // A premise, and no ghost field of the ledger: `new` takes any numbers and cannot fail, so some ledgers are not kept.
     ghost keeps = { λ b. Kept b.ledger };
 
     ghost sound = { Prim.search rules };

@@ -2,6 +2,7 @@
 use Rattle.std.specs.Prelude.{◌≡◌, ℕ, ◌+◌, ◌-◌, ◌*◌, ◌/◌, ◌%◌, ◌<◌, ◌≤◌, Bool, true, false, cond, ◌&&◌, ltb, Some, None, Option, ◌==◌, nat_lt, refl}
 use Rattle.std.proofs.Common.{sym, ap, subst, ◌∙◌, add-mul, mul_assoc, mul-pos, mul-one, mul-le-mul_left, mul-le-mul_right, le_of_mul-le-mul_right, mul-div_cancel, div-mul-le_self, div-le_self, le-div_iff_mul-le, arith}
 use Rattle.std.proofs.Math.Nat.{mul-mod_left}
+use Rattle.std.proofs.lemmas.Bool.{and_parts}
 use Rattle.std.proofs.lemmas.Bool.Decides.{nat_tests}
 use Rattle.std.specs.Option.{option_map}
 use Rattle.book.specs.Form.{GoodForm}
@@ -9,7 +10,7 @@ use Rattle.book.specs.Holding.{Holds}
 use Rattle.book.specs.Meaning.{Meaning, linked, with}
 use Rattle.book.specs.Sound.{Suits, Sound}
 use Rattle.book.specs.declared.Window.{Window}
-use Rattle.book.proofs.Clashing.{both, cycle_some}
+use Rattle.book.proofs.Clashing.{cycle_some}
 use Rattle.book.proofs.Through.{Through, replaced_through, each_with, each_without}
 use Rattle.layer.specs.Grains.{rounded_up, coarse_cycle, coarse_rest, finer, coarser, grain_meaning, Whole, GrainTied}
 use Rattle.layer.specs.Rounding.{whole, grain_some, quotient_some, rounded_covers, rounded_within, fine_before, coarse_before}
@@ -140,7 +141,7 @@ module _ (grain : ℕ → ℕ) where
         let there = fits.there in
         let same = fits.cycle in
         let some : ltb 0 (coarse_cycle (grain l) c) ≡ true = ap (ltb 0) same ∙ grind (arith, nat_tests) in
-        let on = (both (linked l) _ suits.link).0 in
+        let on = (and_parts (linked l) _ suits.link).0 in
         let form = coarse_form c r w steps cycle suits.form in
         record {
           link = λ i. on i && some i;
@@ -153,7 +154,7 @@ module _ (grain : ℕ → ℕ) where
         let c = m.cycle l in
         let r = m.rest l in
         let fits = fits_suits w suits in
-        let on = (both (linked l) _ suits.link).0 in
+        let on = (and_parts (linked l) _ suits.link).0 in
         let most = div-le_self c (grain l) in
         let there = fits.there in
         let some : ltb 0 c ≡ true = grind (arith, nat_tests) in

@@ -8,7 +8,7 @@ use book::{LAST_LINK, Numbered};
 const LINKS: usize = LAST_LINK as usize;
 
 // A number for each link, 0 for what is no link.
-#[derive(Clone, Copy)]
+#[derive(Clone, Copy, Debug, PartialEq, Eq)]
 pub struct PerLink {
     values: Numbered<u32, LINKS>,
 }

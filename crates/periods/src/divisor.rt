@@ -11,9 +11,7 @@ pub fn gcd(a: u32, b: u32) -> u32
     let mut x = a;
     let mut y = b;
     while y != 0 {
-        let rest = x % y;
-        x = y;
-        y = rest;
+        (x, y) = (y, x % y);
     }
     x
 }
