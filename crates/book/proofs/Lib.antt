@@ -2,7 +2,6 @@ pub mod Times
 pub mod Unbounded
 pub mod Lowest
 pub mod Searches
-pub mod Scans
 pub mod Clashing
 pub mod Fitting
 pub mod Keeping

@@ -18,7 +18,7 @@ use Rattle.frames.specs.Refused.{Field}
 -- what was read before something else was accepted
 then_ok : {A B E : Type 0} (r : Result A E) (f : A → Result B E) (y : B) → and_then r f ≡ Ok y → (x : A) × ((r ≡ Ok x) × (f x ≡ Ok y))
 then_ok (Ok x) f y is = (x, (refl, is))
-then_ok (Err e) f y is = absurd (let z : ◌≡◌ {A = ℕ} 0 1 = cc in omega arith)
+then_ok (Err e) f y is = (cc)
 
 then_go : {A B E : Type 0} (r : Result A E) (f : A → Result B E) (x : A) → r ≡ Ok x → and_then r f ≡ f x
 then_go r f x is = ap (λ q. and_then q f) is
@@ -33,7 +33,7 @@ unfolding field
 field_read k bs x is = go (after (opening k) bs) refl is
   where
     go : (o : Option (List ℕ)) → after (opening k) bs ≡ o → number_after k o ≡ Ok x → Field k bs x.0 x.1
-    go None none is = absurd (let z : ◌≡◌ {A = ℕ} 0 1 = cc in omega arith)
+    go None none is = (cc)
     go (Some ds) some is =
         let read = number_ok ds x.1 x.0 (at_key_ok k (number ds) x is) in
         record { text = front_after (opening k) bs ds some ∙ ap (λ l. opening k ++ l) read.text; stops = read.stops; fits = read.fits }
@@ -45,7 +45,7 @@ field_back k n rest fits stop =
 
 end_ok : (f g : Frame) (bs : List ℕ) → at_end f bs ≡ Ok g → (bs ≡ []) × (f ≡ g)
 end_ok f g [] is = (refl, cc)
-end_ok f g (b ∷ bs) is = absurd (let z : ◌≡◌ {A = ℕ} 0 1 = cc in omega arith)
+end_ok f g (b ∷ bs) is = (cc)
 
 pub form_ok : (bs : List ℕ) (f : Frame) → form bs ≡ Ok f → bs ≡ written f
 unfolding written
@@ -96,5 +96,4 @@ exact bs (Ok f) is =
 exact bs (Err e) is = λ f a same.
     let small = form_back f (omega arith) (omega arith) (omega arith) in
     let accepted = ap read_line same ∙ then_go _ allowed _ small ∙ allowed_back f a in
-    let z : ◌≡◌ {A = ℕ} 0 1 = cc in
-    omega arith
+    cc

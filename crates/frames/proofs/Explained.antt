@@ -25,7 +25,7 @@ abbrev Wrong : Key → List ℕ → Reason → Type 0
 Wrong k text why = ((why ≡ KeyExpected) × ((rest : List ℕ) → text ≡ opening k ++ rest → ⊥)) ⊎ ((rest : List ℕ) × ((text ≡ opening k ++ rest) × ((bad : NumberFault) × ((why ≡ number_reason bad) × BadNumber rest bad))))
 
 at_key_err : {A : Type 0} (k : Key) (r : Result A NumberFault) (e : Fault) → at_key k r ≡ Err e → (bad : NumberFault) × ((e ≡ fault k (number_reason bad)) × (r ≡ Err bad))
-at_key_err k (Ok x) e is = absurd (let z : ◌≡◌ {A = ℕ} 0 1 = cc in omega arith)
+at_key_err k (Ok x) e is = (cc)
 at_key_err k (Err bad) e is = (bad, (cc, refl))
 
 field_err : (k : Key) (bs : List ℕ) (e : Fault) → field k bs ≡ Err e → (why : Reason) × ((e ≡ fault k why) × Wrong k bs why)
@@ -33,7 +33,7 @@ unfolding field
 field_err k bs e is = go (after (opening k) bs) refl is
   where
     go : (o : Option (List ℕ)) → after (opening k) bs ≡ o → number_after k o ≡ Err e → (why : Reason) × ((e ≡ fault k why) × Wrong k bs why)
-    go None none is = (KeyExpected, (cc, inl (refl, λ rest same. let found = ap (after (opening k)) same ∙ after_front (opening k) rest in let z : ◌≡◌ {A = ℕ} 0 1 = cc in omega arith)))
+    go None none is = (KeyExpected, (cc, inl (refl, λ rest same. let found = ap (after (opening k)) same ∙ after_front (opening k) rest in cc)))
     go (Some rest) some is =
         let blamed = at_key_err k (number rest) e is in
         (number_reason blamed.0, (blamed.1.0, inr (rest, (front_after (opening k) bs rest some, (blamed.0, (refl, number_err rest blamed.0 blamed.1.1))))))
@@ -44,7 +44,7 @@ then_err (Ok x) f e is = inr (x, (refl, is))
 then_err (Err d) f e is = inl (cc)
 
 end_err : (f : Frame) (rest : List ℕ) (e : Fault) → at_end f rest ≡ Err e → (e ≡ fault Grain EndExpected) × (0 < length rest)
-end_err f [] e is = absurd (let z : ◌≡◌ {A = ℕ} 0 1 = cc in omega arith)
+end_err f [] e is = (cc)
 end_err f (b ∷ rest) e is = (cc, omega arith)
 
 malformed : (line text : List ℕ) (k : Key) (e : Fault) → At k line text → field k text ≡ Err e → Malformed line e
@@ -79,7 +79,7 @@ range_err k n e is = go (ltb n (range_of k).least) refl (ltb (range_of k).most n
     go : (u : Bool) → ltb n (range_of k).least ≡ u → (v : Bool) → ltb (range_of k).most n ≡ v → cond u (refuse k (Below (range_of k).least)) (cond v (refuse k (Above (range_of k).most)) (Ok (tt {0}))) ≡ Err e → (why : Reason) × ((e ≡ fault k why) × Outside (range_of k) n why)
     go true eu v ev is = (Below (range_of k).least, (cc, (refl, grind (arith, nat_tests))))
     go false eu true ev is = (Above (range_of k).most, (cc, (refl, grind (arith, nat_tests))))
-    go false eu false ev is = absurd (let z : ◌≡◌ {A = ℕ} 0 1 = cc in omega arith)
+    go false eu false ev is = (cc)
 
 allowed_err : (f : Frame) (e : Fault) → allowed f ≡ Err e → FirstOutside f e.key e.reason
 allowed_err f e is =
@@ -93,7 +93,7 @@ allowed_err f e is =
     let rate = range_ok Rate f.rate r.1.0 in
     ⊎_elim
     (λ bad. let w = range_err Grain f.grain e bad in blame w.1.0 (size, (rate, w.1.1)))
-    (λ g. absurd (let same = g.1.1 in let z : ◌≡◌ {A = ℕ} 0 1 = cc in omega arith))
+    (λ g. absurd (let same = g.1.1 in cc))
     (then_err (in_range Grain f.grain) _ e r.1.1))
     (then_err (in_range Rate f.rate) _ e s.1.1))
     (then_err (in_range Size f.size) _ e is)

@@ -19,8 +19,8 @@ each_of_none : (m : Meaning) → Sound m → vacant m ≡ Ok tt → (P : Window 
 each_of_none m sound can P = go (holds_windows m) refl can
   where
     go : (b : Bool) → holds_windows m ≡ b → ◌≡◌ {A = Result (Unit {0}) MakeFault} (cond b (Err HoldsWindows) (Ok tt)) (Ok tt) → EachStanding m P
-    go false empty is = λ k w stands. absurd (let free = none_stands m sound empty k in let z : ◌≡◌ {A = ℕ} 0 1 = cc in omega arith)
-    go true some is = absurd (let z : ◌≡◌ {A = ℕ} 0 1 = cc in omega arith)
+    go false empty is = λ k w stands. absurd (let free = none_stands m sound empty k in cc)
+    go true some is = (cc)
 
 pub grain_made : (grain : ℕ → ℕ) (m : Meaning) → Sound m → can_make_grain m ≡ Ok tt → GrainTied grain m
 grain_made grain m sound can = each_of_none m sound can (λ w. Whole (grain w.link) w)
@@ -41,4 +41,4 @@ rest_made extra m sound outside can = go (first_over extra m) (found _ 32 1) can
 
     go : (o : Option ℕ) → Found Over 1 32 o → result_and (within o) (vacant m) ≡ Ok tt → RestTied extra m
     go None (nowhere none) is = record { limits = λ l. limit none l (linked l) refl; longer = each_of_none m sound is (λ w. extra w.link < w.length) }
-    go (Some l) at is = absurd (let z : ◌≡◌ {A = ℕ} 0 1 = cc in omega arith)
+    go (Some l) at is = (cc)

@@ -1,5 +1,5 @@
 -- What is true of a rest layer and of a grain layer, by their meanings alone.
-use Rattle.std.proofs.Common.{◌≡◌, ℕ, ◌*◌, ◌<◌, Bool, true, false, cond, ◌&&◌, ltb, None, sym, refl, ap, ◌∙◌, arith}
+use Rattle.std.proofs.Common.{◌≡◌, ℕ, ◌*◌, Bool, true, false, ◌&&◌, ltb, None, sym, refl, ap, ◌∙◌, arith}
 use Rattle.std.proofs.lemmas.Bool.Decides.{nat_tests}
 use Rattle.book.specs.Calls.{held_answer}
 use Rattle.book.specs.Meaning.{Meaning, linked, present}
@@ -16,7 +16,7 @@ absent : (m : Meaning) → Sound m → (l s : ℕ) → present m l ≡ false →
 absent m sound l s off =
     held_none m l s (λ k (w, (stands, (link, held))).
     let on : true ≡ false = sym (sound.proper k w stands).suits.link ∙ ap (present m) link ∙ off in
-    absurd (let z : ◌≡◌ {A = ℕ} 0 1 = cc in omega arith))
+    (cc))
 
 module _ (extra : ℕ → ℕ) (m : Meaning) (sound : Sound m) (tied : RestTied extra m) where
   -- a rest layer is sound where the book below is

@@ -117,7 +117,7 @@ refusal l first v why is = go (eqb l 0) refl (eqb first 48 && ltb 1 l) refl (ltb
     go : (a : Bool) → eqb l 0 ≡ a → (b : Bool) → (eqb first 48 && ltb 1 l) ≡ b → (d : Bool) → ltb v (2 ^ 32) ≡ d → cond a (Err DigitExpected) (cond b (Err LeadingZero) (ok_or (cond d (Some v) None) TooGreat)) ≡ Err why → Refusal l first v why
     go true ea b eb d ed is = none (cc) (grind (arith, nat_tests))
     go false ea true eb d ed is = zeros (cc) (grind (arith, nat_tests)) (grind (arith, nat_tests))
-    go false ea false eb true ed is = absurd (let z : ◌≡◌ {A = ℕ} 0 1 = cc in omega arith)
+    go false ea false eb true ed is = (cc)
     go false ea false eb false ed is = great (cc) (grind (arith, nat_tests))
 
 two_digits : (ds : List ℕ) → all_ascii_digits ds ≡ true → get_or ds 0 0 ≡ 48 → 1 < length ds → (d : ℕ) × ((rest : List ℕ) × ((ds ≡ 48 ∷ (d ∷ rest)) × (is_ascii_digit d ≡ true)))

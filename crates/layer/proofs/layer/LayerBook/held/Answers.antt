@@ -1,4 +1,4 @@
-use Rattle.std.proofs.Common.{◌≡◌, ◌%◌, ◌<◌, ◌^◌, sym, ap, ◌∙◌, mod-lt, arith, rules}
+use Rattle.std.proofs.Common.{◌≡◌, ◌%◌, ◌<◌, ◌^◌, sym, ◌∙◌, mod-lt, arith, rules}
 use Rattle.book.specs.Calls.{held_answer}
 use Rattle.book.proofs.Holders.{held_exactly, absent_held}
 use Rattle.book.proofs.Through.{through_sound, held_through}
