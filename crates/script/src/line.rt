@@ -23,12 +23,14 @@ fn end(rest: &[u8]) -> Option<()>
 }
 
 // The numbers of a line that is these keys, each followed by its number, and nothing else.
+// The keys are a slice: with `[&[u8]; N]` the proof was tried and did not close.
 fn numbers<const N: usize>(line: &[u8], keys: &[&[u8]]) -> Option<[u32; N]>
     requires { length keys.now ≡ N }
     ensures { result ≡ numbers_of (map (λ key. key.now) keys.now) line.now }
 {
     let mut numbers = [0; N];
     let mut rest = line;
+    // By index: with `numbers.iter_mut().zip(keys)` the proof was tried and did not close.
     for (i, key) in keys.iter().enumerate() {
         (numbers[i], rest) = field(rest, key)?;
     }
