@@ -1,6 +1,7 @@
 -- Lines that are keys, each followed by its number.
 use Rattle.std.specs.Prelude.{ℕ, ◌^◌, ◌<◌, List, [], ◌∷◌, ◌++◌, Some, None, decimal, Option}
 use Rattle.std.specs.Borrow.{Bor}
+use Rattle.std.specs.Option.{option_map}
 use Rattle.std.specs.Result.{result_ok}
 use Rattle.text.specs.Front.{after}
 use Rattle.text.specs.Number.{number}
@@ -38,9 +39,10 @@ abbrev pub reads : {A : Type 0} (ks : List (List ℕ)) → Maker ks (Option A) �
 reads [] f bs = and_then (ended bs) (λ _. f)
 reads (k ∷ ks) f bs = and_then (field k bs) (λ x. reads ks (f x.0) x.1)
 
--- the number of a line that is this key and its number
-abbrev pub read_one : List ℕ → List ℕ → Option ℕ
-read_one k bs = reads (k ∷ []) (λ n. Some n) bs
+-- the numbers of a line that is these keys, each followed by its number, and nothing else
+abbrev pub numbers_of : List (List ℕ) → List ℕ → Option (List ℕ)
+numbers_of [] bs = and_then (ended bs) (λ _. Some [])
+numbers_of (k ∷ ks) bs = and_then (field k bs) (λ x. option_map (λ ns. x.0 ∷ ns) (numbers_of ks x.1))
 
 -- the keys, each followed by its number in decimal
 abbrev pub form_text : (ks : List (List ℕ)) → Numbers ks → List ℕ

@@ -1,7 +1,7 @@
 // One line of a script: the order that it gives.
-ghost use Rattle.std.specs.Prelude.{◌≡◌};
+ghost use Rattle.std.specs.Prelude.{◌≡◌, length, map};
 ghost use Rattle.std.specs.Option.{option_map};
-ghost use Rattle.script.specs.Form.{field as read_field, ended, read_one, left};
+ghost use Rattle.script.specs.Form.{field as read_field, ended, numbers_of, left};
 ghost use Rattle.script.specs.Reading.{read_make, read_book, read_lift, read_find, read_held, read_span, read_call, read_line, ReadsExactly};
 
 use crate::order::{Call, Order, Pile};
@@ -22,23 +22,27 @@ fn end(rest: &[u8]) -> Option<()>
     rest.is_empty().then_some(())
 }
 
-// The number of a line that has this key alone.
-fn one(line: &[u8], key: &[u8]) -> Option<u32>
-    ensures { result ≡ read_one key.now line.now }
+// The numbers of a line that is these keys, each followed by its number, and nothing else.
+// The keys are a slice: with `[&[u8]; N]` the proof was tried and did not close.
+fn numbers<const N: usize>(line: &[u8], keys: &[&[u8]]) -> Option<[u32; N]>
+    requires { length keys.now ≡ N }
+    ensures { result ≡ numbers_of (map (λ key. key.now) keys.now) line.now }
 {
-    let (n, rest) = field(line, key)?;
+    let mut numbers = [0; N];
+    let mut rest = line;
+    // By index: with `numbers.iter_mut().zip(keys)` the proof was tried and did not close.
+    for (i, key) in keys.iter().enumerate() {
+        (numbers[i], rest) = field(rest, key)?;
+    }
     end(rest)?;
-    Some(n)
+    Some(numbers)
 }
 
 // The order of a line that makes a book.
 fn make(line: &[u8]) -> Option<Order>
     ensures { result ≡ read_make line.now }
 {
-    let (pile, rest) = field(line, b"pile=")?;
-    let (links, rest) = field(rest, b" links=")?;
-    let (cycle, rest) = field(rest, b" cycle=")?;
-    end(rest)?;
+    let [pile, links, cycle] = numbers::<3>(line, &[b"pile=", b" links=", b" cycle="])?;
     let pile = Pile::try_from(pile).ok()?;
     Some(Order::Make { pile, links, cycle })
 }
@@ -47,12 +51,10 @@ fn make(line: &[u8]) -> Option<Order>
 fn book(line: &[u8]) -> Option<Call>
     ensures { result ≡ read_book line.now }
 {
-    let (number, rest) = field(line, b"book=")?;
-    let (link, rest) = field(rest, b" link=")?;
-    let (start, rest) = field(rest, b" start=")?;
-    let (length, rest) = field(rest, b" length=")?;
-    let (period, rest) = field(rest, b" period=")?;
-    end(rest)?;
+    let [number, link, start, length, period] = numbers::<5>(
+        line,
+        &[b"book=", b" link=", b" start=", b" length=", b" period="],
+    )?;
     let window = Window {
         link,
         start,
@@ -66,7 +68,7 @@ fn book(line: &[u8]) -> Option<Call>
 fn lift(line: &[u8]) -> Option<Call>
     ensures { result ≡ read_lift line.now }
 {
-    let number = one(line, b"lift=")?;
+    let [number] = numbers::<1>(line, &[b"lift="])?;
     Some(Call::Lift { number })
 }
 
@@ -74,7 +76,7 @@ fn lift(line: &[u8]) -> Option<Call>
 fn find(line: &[u8]) -> Option<Call>
     ensures { result ≡ read_find line.now }
 {
-    let number = one(line, b"find=")?;
+    let [number] = numbers::<1>(line, &[b"find="])?;
     Some(Call::Find { number })
 }
 
@@ -82,9 +84,7 @@ fn find(line: &[u8]) -> Option<Call>
 fn held(line: &[u8]) -> Option<Call>
     ensures { result ≡ read_held line.now }
 {
-    let (link, rest) = field(line, b"held=")?;
-    let (step, rest) = field(rest, b" step=")?;
-    end(rest)?;
+    let [link, step] = numbers::<2>(line, &[b"held=", b" step="])?;
     Some(Call::Held { link, step })
 }
 
@@ -92,7 +92,7 @@ fn held(line: &[u8]) -> Option<Call>
 fn span(line: &[u8]) -> Option<Call>
     ensures { result ≡ read_span line.now }
 {
-    let link = one(line, b"span=")?;
+    let [link] = numbers::<1>(line, &[b"span="])?;
     Some(Call::Span { link })
 }
 
