@@ -148,6 +148,5 @@ line_back (order.Call c) h = or_first _ _ _ (ap (option_map order.Call) (call_ba
 pub exact : (bs : List ℕ) (r : Option Order) → r ≡ read_line bs → ReadsExactly bs r
 exact bs None is = λ o words same.
     let read = is ∙ ap read_line same ∙ line_back o words in
-    let z : ◌≡◌ {A = ℕ} 0 1 = cc in
-    omega arith
+    cc
 exact bs (Some o) is = line_some bs o (sym is)

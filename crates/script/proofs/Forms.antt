@@ -1,5 +1,5 @@
 -- A line is read by a form exactly when it is the form's keys, each followed by its number in decimal.
-use Rattle.std.proofs.Common.{◌≡◌, ℕ, List, [], ◌∷◌, ◌++◌, Some, None, Ok, Err, decimal, Option, Result, refl, ap, ◌∙◌, arith}
+use Rattle.std.proofs.Common.{◌≡◌, ℕ, List, [], ◌∷◌, ◌++◌, Some, None, Ok, Err, decimal, Option, Result, refl, ap, ◌∙◌}
 use Rattle.std.specs.Result.{result_ok}
 use Rattle.std.specs.List.{AllByRecursion}
 use Rattle.text.specs.Front.{after}
@@ -10,7 +10,7 @@ use Rattle.script.specs.Form.{and_then, field, ended, Numbers, Maker, reads, for
 
 -- what was read before something else was made of it
 pub then_some : {A B : Type 0} (r : Option A) (f : A → Option B) (y : B) → and_then r f ≡ Some y → (x : A) × ((r ≡ Some x) × (f x ≡ Some y))
-then_some None f y is = absurd (let z : ◌≡◌ {A = ℕ} 0 1 = cc in omega arith)
+then_some None f y is = cc
 then_some (Some x) f y is = (x, (refl, is))
 
 ok_part : {A E : Type 0} (r : Result A E) (x : A) → result_ok r ≡ Some x → r ≡ Ok x
@@ -32,7 +32,7 @@ field_back k n rest fits stop =
 
 end_some : (bs : List ℕ) (x : Unit {0}) → ended bs ≡ Some x → bs ≡ []
 end_some [] x is = refl
-end_some (b ∷ bs) x is = absurd (let z : ◌≡◌ {A = ℕ} 0 1 = cc in omega arith)
+end_some (b ∷ bs) x is = cc
 
 -- what f makes of a number for each key
 abbrev pub given : {A : Type 0} (ks : List (List ℕ)) → Maker ks A → Numbers ks → A
