@@ -17,7 +17,8 @@ pub struct FormulaBook {
 }
 
 impl FormulaBook {
-    // Whether a book with so many links of this cycle can be made.
+    // Whether a book with so many links of this cycle can be made. Each book is asked for itself, and another one may need more
+    // than its ground, as memory.
     pub fn can_make(ground: Ground) -> Result<(), BookFault>
         ensures { result ≡ can_make ground.links ground.cycle }
     {

@@ -6,7 +6,8 @@ ghost use Rattle.frames.specs.Texts.{key_text};
 use network::{Quantity, Range};
 use std::fmt;
 
-// The keys in the order in which a line has them.
+// The keys in the order in which a line has them. It is no `Quantity`, though there are as many: the order and the texts are a
+// matter of the program's lines, and the network knows no lines.
 #[derive(Clone, Copy)]
 pub enum Key {
     Size,

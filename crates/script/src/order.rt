@@ -42,7 +42,8 @@ pub enum Call {
 
 #[derive(Clone, Copy, Debug, PartialEq, Eq)]
 pub enum Order {
-    // A book with so many links of this cycle.
+    // A book with so many links of this cycle. The two numbers are no value of their own, as they are where a book is made: a
+    // script knows windows, and no books.
     Make { pile: Pile, links: u32, cycle: u32 },
     Call(Call),
 }
