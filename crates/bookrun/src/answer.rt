@@ -17,11 +17,12 @@ use std::alloc::Global;
 use std::fmt;
 use text::Lines;
 
-// Answers lines until there is a book, and says which.
+// Answers lines until there is a book, and says which; the journal is there either way.
 fn begin(heap: Global, lines: &mut Lines) -> Result<(Option<Opening>, Journal), fmt::Error>
     ensures { IfOk result (λ o. Began lines.old lines.new o.0 o.1) }
 {
     let mut journal = Journal::new(heap);
+    // A `for` would take the lines, and what is left of them is still to be answered.
     while let Some(line) = lines.next() {
         let opening = Opening::of(read_line(line));
         journal = journal.write(opening.map(|made| made.map(|_| Accepted::Done)))?;

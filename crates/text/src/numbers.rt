@@ -26,6 +26,7 @@ fn digit_count(text: &[u8]) -> usize
 fn value(digits: &[u8]) -> Option<u32>
     ensures { result ≡ small (value_of digits.now) }
 {
+    // With `try_fold` the proof was tried and did not close.
     let mut value: u32 = 0;
     for digit in digits {
         value = value
