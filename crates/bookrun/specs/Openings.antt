@@ -1,5 +1,5 @@
 -- The book that a script begins with.
-use Rattle.std.specs.Prelude.{Ok, Err, Result}
+use Rattle.std.specs.Prelude.{Some, Ok, Err, Result}
 use Rattle.book.specs.Meaning.{Meaning}
 use Rattle.book.specs.declared.Cause.{Cause}
 use Rattle.bottom.specs.Ledger.{ground}
@@ -13,5 +13,5 @@ ground_of o = ground o.ground.links o.ground.cycle
 
 -- the reply to an order that opens a book, or says why there is none
 abbrev pub opened_by : Result Opening Cause → Reply
-opened_by (Ok o) = Ok Done
+opened_by (Ok o) = Ok (Some Done)
 opened_by (Err c) = Err c

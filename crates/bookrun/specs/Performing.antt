@@ -8,27 +8,27 @@ use Rattle.book.specs.declared.Span as link
 use Rattle.book.specs.declared.Window.{Window}
 use Rattle.script.specs.declared.Call.{Call}
 use Rattle.script.specs.declared.Call.TheVariants as call
-use Rattle.bookrun.specs.declared.reply.Accepted.TheVariants.{Done, Stands, Holds, Nothing, Spans}
+use Rattle.bookrun.specs.declared.reply.Accepted.TheVariants.{Done, Stands, Holds, Spans}
 use Rattle.bookrun.specs.Replies.{Reply}
 
 abbrev pub book_reply : Result (Unit {0}) BookFault → Reply
-book_reply (Ok x) = Ok Done
+book_reply (Ok x) = Ok (Some Done)
 book_reply (Err e) = Err (cause_of e)
 
 abbrev pub lift_reply : Result Window BookFault → Reply
-lift_reply (Ok w) = Ok (Stands w)
+lift_reply (Ok w) = Ok (Some (Stands w))
 lift_reply (Err e) = Err (cause_of e)
 
 abbrev pub find_reply : Option Window → Reply
-find_reply None = Ok Nothing
-find_reply (Some w) = Ok (Stands w)
+find_reply None = Ok None
+find_reply (Some w) = Ok (Some (Stands w))
 
 abbrev pub held_reply : Option ℕ → Reply
-held_reply None = Ok Nothing
-held_reply (Some n) = Ok (Holds n)
+held_reply None = Ok None
+held_reply (Some n) = Ok (Some (Holds n))
 
 abbrev pub span_reply : link.Span → Reply
-span_reply s = Ok (Spans s)
+span_reply s = Ok (Some (Spans s))
 
 -- the reply to a call on a book that means m
 unfoldable pub reply : Call → Meaning → Reply

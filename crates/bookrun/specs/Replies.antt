@@ -3,11 +3,11 @@ use Rattle.std.specs.Prelude.{ℕ, List, ◌++◌, Some, None, Ok, Err, codes, d
 use Rattle.book.specs.declared.Cause.{Cause}
 use Rattle.book.specs.declared.Window.{Window}
 use Rattle.bookrun.specs.declared.reply.Accepted.{Accepted}
-use Rattle.bookrun.specs.declared.reply.Accepted.TheVariants.{Done, Stands, Holds, Nothing, Spans}
+use Rattle.bookrun.specs.declared.reply.Accepted.TheVariants.{Done, Stands, Holds, Spans}
 
--- the answer to an accepted call, or why it was refused
+-- the answer to a call, none where there is no such window, or why the call was refused
 abbrev pub Reply : Type 0
-Reply = Result Accepted Cause
+Reply = Result (Option Accepted) Cause
 
 -- a window by its four numbers
 abbrev pub window_text : Window → List ℕ
@@ -18,12 +18,12 @@ abbrev pub accepted_text : Accepted → List ℕ
 accepted_text Done = codes "done"
 accepted_text (Stands w) = window_text w
 accepted_text (Holds n) = codes "number=" ++ decimal n
-accepted_text Nothing = codes "none"
 accepted_text (Spans s) = codes "cycle=" ++ (decimal s.cycle ++ (codes " rest=" ++ decimal s.rest))
 
 -- the line of a reply
 abbrev pub reply_text : Reply → List ℕ
-reply_text (Ok a) = accepted_text a
+reply_text (Ok None) = codes "none"
+reply_text (Ok (Some a)) = accepted_text a
 reply_text (Err c) = codes "refused=" ++ (decimal c.number ++ (codes " a=" ++ (decimal c.a ++ (codes " b=" ++ decimal c.b))))
 
 -- the text of the reply to line n

@@ -25,7 +25,7 @@ fn begin(heap: Global, lines: &mut Lines) -> Result<(Option<Opening>, Journal), 
     // A `for` would take the lines, and what is left of them is still to be answered.
     while let Some(line) = lines.next() {
         let opening = Opening::of(read_line(line));
-        journal = journal.write(opening.map(|made| made.map(|_| Accepted::Done)))?;
+        journal = journal.write(opening.map(|made| made.map(|_| Some(Accepted::Done))))?;
         if let Some(Ok(opening)) = opening {
             return Ok((Some(opening), journal));
         }

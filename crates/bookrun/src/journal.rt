@@ -34,8 +34,9 @@ impl Journal {
         }
     }
 
-    // Writes the reply to the next line, and counts it.
-    pub fn write(mut self, reply: Option<Reply>) -> Result<Journal, fmt::Error>
+    // Writes the reply to the next line, and counts it. Which replies there were before is for the caller to say: a ghost field
+    // holds a fact, and no list.
+    pub fn write(self, reply: Option<Reply>) -> Result<Journal, fmt::Error>
         ensures { (before : _) → Records before self → IfOk result (Records (before ++ (reply ∷ []))) }
     {
         let Journal {
@@ -84,7 +85,7 @@ mod tests {
             b: 0,
         };
         let journal = Journal::new(rt.alloc())
-            .write(Some(Ok(Accepted::Holds(7))))?
+            .write(Some(Ok(Some(Accepted::Holds(7)))))?
             .write(Some(Err(cause)))?
             .write(None)?;
         let text =

@@ -15,16 +15,12 @@ pub fn perform<B: Book>(book: &mut B, call: Call) -> Reply
     Ok(match call {
         Call::Book { number, window } => {
             book.book(number, window)?;
-            Accepted::Done
+            Some(Accepted::Done)
         }
-        Call::Lift { number } => Accepted::Stands(book.lift(number)?),
-        Call::Find { number } => book
-            .find(number)
-            .map_or(Accepted::Nothing, Accepted::Stands),
-        Call::Held { link, step } => book
-            .held(link, u64::from(step))
-            .map_or(Accepted::Nothing, Accepted::Holds),
-        Call::Span { link } => Accepted::Spans(book.span(link)),
+        Call::Lift { number } => Some(Accepted::Stands(book.lift(number)?)),
+        Call::Find { number } => book.find(number).map(Accepted::Stands),
+        Call::Held { link, step } => book.held(link, u64::from(step)).map(Accepted::Holds),
+        Call::Span { link } => Some(Accepted::Spans(book.span(link))),
     })
 }
 

@@ -5,7 +5,7 @@ ghost use Rattle.bookrun.specs.Replies.{accepted_text, answer_text};
 use book::{Cause, Span, Window};
 use std::fmt;
 
-// What an accepted call is answered with.
+// What there is to say of an accepted call.
 #[derive(Clone, Copy)]
 pub enum Accepted {
     // The book was made, or the window stands.
@@ -14,14 +14,12 @@ pub enum Accepted {
     Stands(Window),
     // The number of the window that holds the step.
     Holds(u32),
-    // There is no such window.
-    Nothing,
     // The cycle and the rest of a link.
     Spans(Span),
 }
 
-// The answer to a call, or why it was refused.
-pub type Reply = Result<Accepted, Cause>;
+// The answer to a call, none where there is no such window, or why the call was refused.
+pub type Reply = Result<Option<Accepted>, Cause>;
 
 impl fmt::Display for Accepted {
     ghost output = { λ a. Some (accepted_text a) };
@@ -42,7 +40,6 @@ impl fmt::Display for Accepted {
                 )
             }
             Accepted::Holds(number) => write!(f, "number={number}"),
-            Accepted::Nothing => f.write_str("none"),
             Accepted::Spans(span) => {
                 let Span { cycle, rest } = *span;
                 write!(f, "cycle={cycle} rest={rest}")
@@ -63,7 +60,8 @@ impl fmt::Display for Answered {
 
     fn fmt<W: fmt::Write>(&self, f: &mut fmt::Formatter<W>) -> fmt::Result {
         match self.reply {
-            Some(Ok(accepted)) => write!(f, "{accepted}"),
+            Some(Ok(Some(accepted))) => write!(f, "{accepted}"),
+            Some(Ok(None)) => f.write_str("none"),
             Some(Err(Cause { number, a, b })) => write!(f, "refused={number} a={a} b={b}"),
             None => {
                 let line = self.line;

@@ -22,12 +22,12 @@ returns-in_ok-lift-in-Lift g c = λ keeps.
 
 pub returns-in-Find : goal.returns-in-Find
 returns-in-Find g c = λ keeps.
-    let replies : Ok c.map_or.result ≡ find_reply c.find.result = grind (arith, common_steps) in
+    let replies : Ok c.map.result ≡ find_reply c.find.result = grind (arith, common_steps) in
     find_replied _ _ c.args.call _ c.in-Find.number c.find.result c.in-Find.is replies (c.find.ensures keeps) keeps
 
 pub returns-in-Held : goal.returns-in-Held
 returns-in-Held g c = λ keeps.
-    let replies : Ok c.map_or-in-Held.result ≡ held_reply c.held.result = grind (arith, common_steps) in
+    let replies : Ok c.map-in-Held.result ≡ held_reply c.held.result = grind (arith, common_steps) in
     held_replied _ _ c.args.call _ c.in-Held.link c.in-Held.step c.from.result c.held.result c.in-Held.is c.from.ensures replies (c.held.ensures.answer keeps) keeps
 
 pub returns-in-Span : goal.returns-in-Span
