@@ -9,3 +9,4 @@ pub mod Sound
 pub mod Steps
 pub mod Cases
 pub mod Numbered
+pub mod Through

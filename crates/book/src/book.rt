@@ -14,7 +14,8 @@ pub trait Book {
     // What the book means: its windows, and the cycle and the rest of each link.
     ghost meaning: { Self → Meaning };
 
-    // The value keeps that meaning. Whatever makes a book ensures it, and every call keeps it.
+    // The value keeps that meaning. Whatever makes a book ensures it, and every call keeps it. It is a premise of each clause, and
+    // no invariant of the type: makers take any numbers and refuse nothing.
     ghost keeps: { Self → Type 0 };
 
     // Lets the window stand under the number, or says why not.

@@ -8,7 +8,8 @@ pub const LAST_WINDOW: u32 = 256;
 // The greatest number that a link may have.
 pub const LAST_LINK: u32 = 32;
 
-// Whether a window may have the number.
+// Whether a window may have the number. This and the next differ in a constant alone: a function of the last number would be the
+// library's `contains` by another name.
 pub fn is_window(number: u32) -> bool
     ensures { result ≡ numbered number }
 {

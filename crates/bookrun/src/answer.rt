@@ -22,7 +22,7 @@ fn begin(heap: Global, lines: &mut Lines) -> Result<(Option<Opening>, Journal), 
     ensures { IfOk result (λ o. Began lines.old lines.new o.0 o.1) }
 {
     let mut journal = Journal::new(heap);
-    // A `for` would take the lines, and what is left of them is still to be answered.
+    // With a `for` over the reference the proof was tried and did not close.
     while let Some(line) = lines.next() {
         let opening = Opening::of(read_line(line));
         journal = journal.write(opening.map(|made| made.map(|_| Some(Accepted::Done))))?;

@@ -11,8 +11,8 @@ mod tally;
 use std::io;
 use std::io::Read;
 
-// Both programs have these lines: a function over what answers the input would have to require that it may be called, and could
-// promise nothing of what is printed.
+// Both programs have these lines: a function over what answers the input would have to require of it that it may be called, and no
+// public function requires anything.
 fn main(rt: HostRuntime) -> io::Result<()> {
     let heap = rt.alloc();
     let mut script = Vec::new(heap);

@@ -11,7 +11,8 @@ use Rattle.book.specs.Meaning.{Meaning, linked, with}
 use Rattle.book.specs.Sound.{Suits, Sound}
 use Rattle.book.specs.declared.Window.{Window}
 use Rattle.book.proofs.Clashing.{cycle_some}
-use Rattle.book.proofs.Through.{Through, replaced_through, each_with, each_without}
+use Rattle.book.specs.Through.{Through}
+use Rattle.book.proofs.Through.{replaced_through, each_with, each_without}
 use Rattle.layer.specs.Grains.{rounded_up, coarse_cycle, coarse_rest, finer, coarser, grain_meaning, Whole, GrainTied}
 use Rattle.layer.specs.Rounding.{whole, grain_some, quotient_some, rounded_covers, rounded_within, fine_before, coarse_before}
 

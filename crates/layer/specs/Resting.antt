@@ -6,7 +6,8 @@ use Rattle.book.specs.Form.{GoodForm}
 use Rattle.book.specs.Meaning.{Meaning, with}
 use Rattle.book.specs.Sound.{Suits, Sound}
 use Rattle.book.specs.declared.Window.{Window}
-use Rattle.book.proofs.Through.{Through, replaced_through, each_with, each_without}
+use Rattle.book.specs.Through.{Through}
+use Rattle.book.proofs.Through.{replaced_through, each_with, each_without}
 use Rattle.layer.specs.Rests.{longer, shorter, rest_meaning, RestTied}
 
 module _ (extra : ℕ → ℕ) where

@@ -31,10 +31,7 @@ impl<B: Book> Layer<B, Grain> {
         ensures means { ⟦<GrainLayer<B> as Book>⟧.meaning result ≡ grain_meaning (value_at grain) (B.Book.meaning below) }
         ensures kept { B.Book.keeps below → can_make_grain (B.Book.meaning below) ≡ Ok tt → ⟦<GrainLayer<B> as Book>⟧.keeps result }
     {
-        Layer {
-            below,
-            view: Grain { grain },
-        }
+        Layer::over(below, Grain { grain })
     }
 }
 
@@ -84,6 +81,7 @@ impl View for Grain {
     fn span(&self, link: u32, span: Span) -> Span {
         let grain = self.grain.at(link);
         if grain == 0 || span.cycle == 0 || span.cycle % grain != 0 {
+            // No `Option`: the call promises two numbers for every link.
             return Span::default();
         }
         Span {

@@ -9,8 +9,8 @@ use book::{Book, BookFault, MakeFault, Span, Window, holds_windows};
 // A book whose windows are those of the book below, as the view shows them.
 #[derive(Drop)]
 pub struct Layer<B, V> {
-    pub(crate) below: B,
-    pub(crate) view: V,
+    below: B,
+    view: V,
 }
 
 // A layer is made only over a book without windows.
@@ -21,6 +21,17 @@ pub(crate) fn vacant<B: Book>(below: &B) -> Result<(), MakeFault>
         return Err(MakeFault::HoldsWindows);
     }
     Ok(())
+}
+
+impl<B: Book, V: View> Layer<B, V> {
+    // The layer over the book. It keeps its meaning where the book keeps its own and has only windows that the view can have
+    // handed down.
+    pub fn over(below: B, view: V) -> Layer<B, V>
+        ensures means { ⟦<Layer<B, V> as Book>⟧.meaning result ≡ V.View.above view (B.Book.meaning below) }
+        ensures kept { B.Book.keeps below → V.View.tied view (B.Book.meaning below) → ⟦<Layer<B, V> as Book>⟧.keeps result }
+    {
+        Layer { below, view }
+    }
 }
 
 impl<B: Book, V: View> Book for Layer<B, V> {

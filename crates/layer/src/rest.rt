@@ -48,10 +48,7 @@ impl<B: Book> Layer<B, Extra> {
         ensures means { ⟦<RestLayer<B> as Book>⟧.meaning result ≡ rest_meaning (value_at extra) (B.Book.meaning below) }
         ensures kept { B.Book.keeps below → can_make_rest (value_at extra) (B.Book.meaning below) ≡ Ok tt → ⟦<RestLayer<B> as Book>⟧.keeps result }
     {
-        Layer {
-            below,
-            view: Extra { extra },
-        }
+        Layer::over(below, Extra { extra })
     }
 }
 

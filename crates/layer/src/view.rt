@@ -5,7 +5,7 @@ ghost use Rattle.book.specs.Calls.{span_answer};
 ghost use Rattle.book.specs.Meaning.{Meaning, with};
 ghost use Rattle.book.specs.Sound.{Sound, Suits};
 ghost use Rattle.book.specs.declared.Window.{Window};
-ghost use Rattle.book.proofs.Through.{Through};
+ghost use Rattle.book.specs.Through.{Through};
 
 use book::{Span, Window};
 

@@ -5,4 +5,4 @@ mod line;
 mod order;
 
 pub use line::read_line;
-pub use order::{Call, Order, Pile};
+pub use order::{Call, NoSuchPile, Order, Pile};

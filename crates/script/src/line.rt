@@ -64,7 +64,8 @@ fn book(line: &[u8]) -> Option<Call>
     Some(Call::Book { number, window })
 }
 
-// The call of a line that lifts a window.
+// The call of a line that lifts a window. This and two more below differ in their key and in what they make: a function over both
+// would say in a closure's clauses what each says here by its definition.
 fn lift(line: &[u8]) -> Option<Call>
     ensures { result ≡ read_lift line.now }
 {

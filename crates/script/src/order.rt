@@ -42,8 +42,8 @@ pub enum Call {
 
 #[derive(Clone, Copy, Debug, PartialEq, Eq)]
 pub enum Order {
-    // A book with so many links of this cycle. The two numbers are no value of their own, as they are where a book is made: a
-    // script knows windows, and no books.
+    // A book with so many links of this cycle. They are a value of their own where such a book is made, in a crate that a script
+    // does not build on.
     Make { pile: Pile, links: u32, cycle: u32 },
     Call(Call),
 }

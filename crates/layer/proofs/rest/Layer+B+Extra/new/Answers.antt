@@ -4,4 +4,4 @@ use Rattle.layer.proofs.Made.{rest_made}
 use Rattle.layer.proofs.rest.Layer+B+Extra.new.Goals as goal
 
 pub returns-clause-kept : goal.returns-clause-kept
-returns-clause-kept g c = λ keeps can. (keeps, rest_made (value_at c.args.extra) (g.B.Book.meaning c.args.below) (g.met.B.Book.sound c.args.below keeps) (none_outside c.args.extra) can)
+returns-clause-kept g c = λ keeps can. c.over.ensures.kept keeps (rest_made (value_at c.args.extra) (g.B.Book.meaning c.args.below) (g.met.B.Book.sound c.args.below keeps) (none_outside c.args.extra) can)
