@@ -1,5 +1,5 @@
 -- A book that is kept in another one: each window is handed to the book below in another form.
-use Rattle.std.specs.Prelude.{◌≡◌, ℕ, ◌≤◌, true, Option}
+use Rattle.std.specs.Prelude.{◌≡◌, ℕ, ◌≤◌, true}
 use Rattle.std.specs.Option.{option_map}
 use Rattle.book.specs.declared.window.Window.{Window}
 use Rattle.book.specs.Holding.{Holds}
