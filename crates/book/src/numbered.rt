@@ -28,7 +28,7 @@ impl<T: Copy, const N: usize> Numbered<T, N> {
     pub fn set(&mut self, number: u32, value: T)
         ensures { value_at self.new ≡ changed_at N number value (value_at self.old) }
     {
-        // What `get_mut` promises says nothing of the values afterwards, so the place is tested here.
+        // With `get_mut` the proof was tried and did not close: its contract says nothing of the values afterwards.
         if let Some(place) = number.checked_sub(1)
             && (place as usize) < N
         {

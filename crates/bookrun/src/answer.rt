@@ -33,7 +33,8 @@ fn begin(heap: Global, lines: &mut Lines) -> Result<(Option<Opening>, Journal), 
     Ok((None, journal))
 }
 
-// Answers the lines that are left by calls on the book.
+// Answers the lines that are left by calls on the book. Which replies there were before is for the caller to say, as in
+// `Journal::write`.
 fn run<B: Book>(mut journal: Journal, lines: Lines, book: &mut B) -> Result<Journal, fmt::Error>
     ensures { B.Book.keeps book.old → (before : _) → Records before journal → IfOk result (Records (before ++ replies (Some (B.Book.meaning book.old)) lines.entry)) }
 {

@@ -7,8 +7,8 @@ use std::alloc::Global;
 use std::fmt;
 
 // The lines that answer a script so far: their text, how many they are, and the count of their replies. No count is above the
-// number of lines, and that is not above the number of bytes, so none of them ever outgrows its type. The number of lines stands
-// for itself, whatever is counted of their replies.
+// number of lines, and that is not above the number of bytes, so none of them ever outgrows its type. The number of lines is
+// that of the calls and the unread lines; it has a field, since each line is told by it, and a sum at each would be no plainer.
 #[derive(Drop)]
 pub struct Journal {
     pub text: String,

@@ -17,8 +17,8 @@ pub struct FormulaBook {
 }
 
 impl FormulaBook {
-    // Whether a book with so many links of this cycle can be made. Each book is asked for itself, and another one may need more
-    // than its ground, as memory.
+    // Whether a book with so many links of this cycle can be made. It passes the question on: each kind of book has this call of its
+    // own, and another kind may need more than a ground, such as memory.
     pub fn can_make(ground: Ground) -> Result<(), BookFault>
         ensures { result ≡ can_make ground.links ground.cycle }
     {

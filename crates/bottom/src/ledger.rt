@@ -40,7 +40,7 @@ impl Ledger {
                 rest: 0,
             }
         } else {
-            // No `Option`: the call promises two numbers for every link.
+            // No `Option`: this call promises two numbers for every link.
             Span::default()
         }
     }

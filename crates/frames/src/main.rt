@@ -11,8 +11,8 @@ mod timed;
 use std::io;
 use std::io::Read;
 
-// Both programs have these lines: a function over what answers the input would have to require of it that it may be called, and no
-// public function requires anything.
+// Both programs have these lines. A function over the program's `answer` would have to require that it may be called, and no public
+// function here requires anything; a trait for it would be longer than the lines.
 fn main(rt: HostRuntime) -> io::Result<()> {
     let heap = rt.alloc();
     let mut input = Vec::new(heap);

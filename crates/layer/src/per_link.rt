@@ -7,7 +7,7 @@ use book::{LAST_LINK, Numbered};
 // How many links there may be.
 const LINKS: usize = LAST_LINK as usize;
 
-// A number for each link, 0 for what is no link.
+// A number for each link. It is a type of its own over `Numbered`, since what is no link has the number 0 here, and none there.
 #[derive(Clone, Copy, Debug, PartialEq, Eq)]
 pub struct PerLink {
     values: Numbered<u32, LINKS>,

@@ -32,8 +32,8 @@ fn first_over<B: Book>(below: &B, extra: &PerLink) -> Option<u32>
 }
 
 impl<B: Book> Layer<B, Extra> {
-    // Whether the layer can be made over the book. Both go by themselves here and in `new`: a pair of them would be the layer, which
-    // is not made yet.
+    // Whether the layer can be made over the book. Book and extra are two parameters here and in `new`: a value of both would be the
+    // layer itself, which is not made yet.
     pub fn can_make(below: &B, extra: &PerLink) -> Result<(), MakeFault>
         ensures { B.Book.keeps below.now → result ≡ can_make_rest (value_at extra.now) (B.Book.meaning below.now) }
     {

@@ -23,7 +23,7 @@ fn end(rest: &[u8]) -> Option<()>
 }
 
 // The numbers of a line that is these keys, each followed by its number, and nothing else.
-// The keys are a slice: with `[&[u8]; N]` the proof was tried and did not close.
+// The keys are a slice: `[&[u8]; N]` was tried, and an array of references whose length is a parameter gets no proof.
 fn numbers<const N: usize>(line: &[u8], keys: &[&[u8]]) -> Option<[u32; N]>
     requires { length keys.now ≡ N }
     ensures { result ≡ numbers_of (map (λ key. key.now) keys.now) line.now }
@@ -64,8 +64,8 @@ fn book(line: &[u8]) -> Option<Call>
     Some(Call::Book { number, window })
 }
 
-// The call of a line that lifts a window. This and two more below differ in their key and in what they make: a function over both
-// would say in a closure's clauses what each says here by its definition.
+// The call of a line that lifts a window. This and two more below differ in their key and in what they make: a function over key
+// and maker would say in a closure's clauses what each says here by its definition.
 fn lift(line: &[u8]) -> Option<Call>
     ensures { result ≡ read_lift line.now }
 {

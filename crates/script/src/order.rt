@@ -42,8 +42,8 @@ pub enum Call {
 
 #[derive(Clone, Copy, Debug, PartialEq, Eq)]
 pub enum Order {
-    // A book with so many links of this cycle. They are a value of their own where such a book is made, in a crate that a script
-    // does not build on.
+    // A book with so many links of this cycle. Where such a book is made the two are one value; that type is no matter of the crate
+    // that a script builds on, which says what books mean, and not how they are made.
     Make { pile: Pile, links: u32, cycle: u32 },
     Call(Call),
 }
