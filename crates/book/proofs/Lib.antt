@@ -7,5 +7,6 @@ pub mod Fitting
 pub mod Keeping
 pub mod Holders
 pub mod NoWindows
+pub mod Meetings
 pub mod Through
 pub mod Refusals

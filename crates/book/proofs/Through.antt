@@ -1,43 +1,47 @@
 -- A book that is kept in another one: each window is handed to the book below in another form.
-use Rattle.std.proofs.Common.{◌≡◌, ℕ, ◌^◌, ◌%◌, ◌<◌, Bool, true, false, cond, eqb, is_some, Some, None, Ok, Err, Option, Result, sym, refl, ap, ◌∙◌, subst, arith}
-use Rattle.std.proofs.lemmas.Bool.Decides.{Decides-like, same_from_decides}
+use Rattle.std.proofs.Common.{◌≡◌, ℕ, ◌^◌, ◌%◌, ◌<◌, Bool, true, false, cond, eqb, Some, None, Ok, Err, Option, Result, sym, refl, ap, ◌∙◌, subst, arith}
 use Rattle.std.specs.Option.{option_map}
-use Rattle.std.specs.Result.{result_and}
 use Rattle.book.specs.declared.fault.BookFault.{BookFault}
 use Rattle.book.specs.declared.span.Span.{Span}
 use Rattle.book.specs.declared.window.Window.{Window}
-use Rattle.book.specs.Calls.{meets_standing, first_met, misfit, unfit, unmet, book_answer, book_after, changed, held_answer, span_answer}
-use Rattle.book.specs.Holding.{Holds, Meet}
-use Rattle.book.specs.Lowest.{lowest}
+use Rattle.book.specs.Calls.{first_met, misfit, book_answer, book_after, changed, held_answer, span_answer}
+use Rattle.book.specs.Holding.{Holds}
 use Rattle.book.specs.Meaning.{Meaning, present, replaced, with}
-use Rattle.book.specs.Sound.{Stands, EachStanding, Suits, Proper, Sound, WouldMeet, HoldsAt}
+use Rattle.book.specs.Sound.{EachStanding, Suits, Proper, Sound, HoldsAt}
 use Rattle.book.specs.Steps.{Did}
 use Rattle.book.specs.Through.{Through}
-use Rattle.book.proofs.Clashing.{meets_standing_lem}
-use Rattle.book.proofs.Fitting.{free, unfit_proper, fitting, period_short}
-use Rattle.book.proofs.Holders.{held_like, one_holder, placed_held}
+use Rattle.book.proofs.Fitting.{fitting, period_short}
+use Rattle.book.proofs.Holders.{held_like, placed_held}
 use Rattle.book.proofs.Keeping.{stands_with}
+use Rattle.book.proofs.Meetings.{Meetings, kept_as, suits_above, meetings_sound, meetings_met, meetings_answer}
 
 module _ {up down : Window → Window} {lower : ℕ → ℕ → ℕ} {m₀ m : Meaning} (t : Through up down lower m₀ m) where
-  -- the window below that a window is kept as
-  kept_as : (k : ℕ) (w : Window) → Stands m k w → (v : Window) × (Stands m₀ k v × (up v ≡ w))
-  kept_as k w stands = go (m₀.windows k) refl (sym (t.windows k) ∙ stands)
-    where
-      go : (o : Option Window) → m₀.windows k ≡ o → option_map up o ≡ Some w → (v : Window) × (Stands m₀ k v × (up v ≡ w))
-      go None free is = absurd (grind arith)
-      go (Some v) there is = (v, (there, cc))
-
-  suits_above : (k : ℕ) (w : Window) → Stands m k w → Suits m w
-  suits_above k w stands = let (v, (there, same)) = kept_as k w stands in subst (Suits m) same (t.above k v there).0
+  -- two windows meet above exactly when they do below
+  pub meetings : Meetings up down m₀ m
+  meetings = record {
+    inner = t.inner;
+    cycles = t.cycles;
+    rests = t.rests;
+    windows = t.windows;
+    link = t.link;
+    above = t.above;
+    below = t.below;
+    meets = λ v w suits also same (s, (one, other)).
+        let At : ℕ → Type 0 = λ l. Holds v (m.rest l) s → Holds (down v) (m₀.rest l) (lower l s) in
+        (lower w.link s, (subst At same (t.falls v suits s) one, t.falls w also s other));
+    met = λ v w suits also same (s, (one, other)).
+        let At : ℕ → Type 0 = λ l. Holds (down v) (m₀.rest l) s → Holds v (m.rest l) (t.raise l s) in
+        (t.raise w.link s, (subst At same (t.rises v suits s) one, t.rises w also s other));
+  }
 
   -- the number whose window holds a step of a link holds it below, and the other way round
   held_below : (l s k : ℕ) → HoldsAt m l s k → HoldsAt m₀ l (lower l s) k
   held_below l s k (w, (stands, (link, held))) =
-      let (v, (there, is)) = kept_as k w stands in
+      let (v, (there, is)) = kept_as meetings k w stands in
       let same : down w ≡ v = ap down (sym is) ∙ (t.above k v there).1 in
       let At : ℕ → Type 0 = λ i. Holds w (m.rest i) s → Holds (down w) (m₀.rest i) (lower i s) in
       let Kept : Window → Type 0 = λ x. Holds x (m₀.rest l) (lower l s) in
-      (v, (there, (ap (λ x. x.link) (sym same) ∙ t.link w ∙ link, subst Kept same (subst At link (t.falls w (suits_above k w stands) s) held))))
+      (v, (there, (ap (λ x. x.link) (sym same) ∙ t.link w ∙ link, subst Kept same (subst At link (t.falls w (suits_above meetings k w stands) s) held))))
 
   held_above : (l s k : ℕ) → HoldsAt m₀ l s k → HoldsAt m l (t.raise l s) k
   held_above l s k (v, (there, (link, held))) =
@@ -49,58 +53,31 @@ module _ {up down : Window → Window} {lower : ℕ → ℕ → ℕ} {m₀ m : M
 
   -- no two windows of the book above ever hold one step, since none of the book below do
   pub through_sound : Sound m
-  through_sound = record {
-    cycles = t.cycles;
-    rests = t.rests;
-    proper = λ n w stands. record { number = (t.inner.proper n (kept_as n w stands).0 (kept_as n w stands).1.0).number; suits = suits_above n w stands };
-    apart = λ i j v w other one two same s held also.
-        let At : ℕ → Type 0 = λ l. Holds v (m.rest l) s in
-        other (one_holder m₀ t.inner w.link (lower w.link s) i j (held_below w.link s i (v, (one, (same, subst At same held)))) (held_below w.link s j (w, (two, (refl, also)))));
-  }
+  through_sound = meetings_sound meetings
 
-  module _ (w : Window) (suits : Suits m w) where
-    would : (k : ℕ) → WouldMeet m w k → WouldMeet m₀ (down w) k
-    would k (v, (stands, (same, (s, (one, other))))) =
-        let (x, (there, (link, held))) = held_below w.link s k (v, (stands, (same, one))) in
-        let At : ℕ → Type 0 = λ l. Meet (m₀.rest l) x (down w) in
-        (x, (there, (link ∙ sym (t.link w), subst At (sym (t.link w)) (lower w.link s, (held, t.falls w suits s other)))))
-
-    would_back : (k : ℕ) → WouldMeet m₀ (down w) k → WouldMeet m w k
-    would_back k (x, (there, (same, met))) =
-        let At : ℕ → Type 0 = λ l. Meet (m₀.rest l) x (down w) in
-        let (s, (one, other)) = subst At (t.link w) met in
-        let (v, (stands, (link, held))) = held_above w.link s k (x, (there, (same ∙ t.link w, one))) in
-        (v, (stands, (link, (t.raise w.link s, (held, t.rises w suits s other)))))
-
-    -- the window meets the same numbers below
-    pub through_met : first_met m₀ (down w) ≡ first_met m w
-    through_met =
-        let same : (k : ℕ) → meets_standing m₀ (down w) (m₀.windows k) ≡ meets_standing m w (m.windows k) = λ k. same_from_decides _ _ (meets_standing_lem t.inner (t.below w suits).0 k) (Decides-like _ (would k) (would_back k) (meets_standing_lem through_sound suits k)) in
-        λ i. lowest (λ k. same k i) 1 256
-
-  some_mapped : (o : Option Window) → is_some (option_map up o) ≡ is_some o
-  some_mapped None = refl
-  some_mapped (Some v) = refl
+  -- a window meets the same numbers below
+  pub through_met : (w : Window) → Suits m w → first_met m₀ (down w) ≡ first_met m w
+  through_met w suits = meetings_met meetings w suits
 
   -- the book below gives the answer
   pub through_answer : (n : ℕ) (w : Window) → Proper m n w → book_answer n (down w) m₀ ≡ book_answer n w m
-  through_answer n w proper =
-      let low = (t.below w proper.suits).0 in
-      let taken : is_some (m₀.windows n) ≡ is_some (m.windows n) = sym (ap is_some (t.windows n) ∙ some_mapped (m₀.windows n)) in
-      let fits : unfit n (down w) m₀ ≡ unfit n w m = unfit_proper m₀ n (down w) (record { number = proper.number; suits = low }) ∙ ap (free n) taken ∙ sym (unfit_proper m n w proper) in
-      λ i. result_and (fits i) (unmet n (through_met w proper.suits i))
+  through_answer n w proper = meetings_answer meetings n w proper
 
-  -- a step of a link that is there is held as one of the book below
-  pub through_held : (l s : ℕ) → present m l ≡ true → held_answer l (lower l s) m₀ ≡ held_answer l s m
-  through_held l s on =
+  -- a step is held as one of the book below
+  pub through_held : (l s : ℕ) → held_answer l (lower l s) m₀ ≡ held_answer l s m
+  through_held l s =
       held_like m₀ m l (lower l s) s
-      (λ k held. subst (λ i. HoldsAt m l i k) (t.raised l s on) (held_above l (lower l s) k held))
+      (λ k held. let above = held_above l (lower l s) k held in subst (λ i. HoldsAt m l i k) (t.raised l s (there k above)) above)
       (held_below l s)
+    where
+      -- the link of a window that holds a step is there
+      there : {i : ℕ} (k : ℕ) → HoldsAt m l i k → present m l ≡ true
+      there k (w, (stands, (link, held))) = ap (present m) (sym link) ∙ (suits_above meetings k w stands).link
 
   -- so the book below, asked for the place of the step in the cycle of the link, gives the answer
   pub held_through : (l s place below : ℕ) (span : Span) (r : Option ℕ) → span ≡ span_answer l m → 0 < span.cycle → place ≡ s % span.cycle → below ≡ lower l place → r ≡ held_answer l below m₀ → r ≡ held_answer l s m
   held_through l s place below span r is some at step asked =
-      placed_held m through_sound l s span r is some (λ there. asked ∙ ap (λ x. held_answer l x m₀) (step ∙ ap (lower l) at) ∙ through_held l (s % span.cycle) there)
+      placed_held m through_sound l s span r is some (λ there. asked ∙ ap (λ x. held_answer l x m₀) (step ∙ ap (lower l) at) ∙ through_held l (s % span.cycle))
 
 -- what stands under one number is replaced above as below
 pub replaced_through : (up : Window → Window) (n : ℕ) (o : Option Window) (windows : ℕ → Option Window) (k : ℕ) → option_map up (replaced n o windows k) ≡ replaced n (option_map up o) (λ j. option_map up (windows j)) k

@@ -22,7 +22,8 @@ pub struct Journal {
 
 impl Journal {
     ghost use Rattle.bookrun.specs.Journals.{Records};
-    ghost use Rattle.bookrun.specs.Printed.{line, tally_text};
+    ghost use Rattle.bookrun.specs.Printed.{line, counted, tally_text};
+    ghost use Rattle.bookrun.specs.Replies.{answer_text};
 
     // The journal of no line.
     pub fn new(heap: Global) -> Journal
@@ -38,7 +39,10 @@ impl Journal {
     // Writes the reply to the next line, and counts it. Which replies there were before is for the caller to say: a ghost field
     // holds a fact, and no list.
     pub fn write(self, reply: Option<Reply>) -> Result<Journal, fmt::Error>
-        ensures { (before : _) → Records before self → IfOk result (Records (before ++ (reply ∷ []))) }
+        ensures text { IfOk result (λ written. string_bytes written.text ≡ string_bytes self.text ++ line (answer_text (self.lines + 1) reply)) }
+        ensures lines { IfOk result (λ written. written.lines ≡ self.lines + 1) }
+        ensures tally { IfOk result (λ written. written.tally ≡ counted reply self.tally) }
+        ensures records { (before : _) → Records before self → IfOk result (Records (before ++ (reply ∷ []))) }
     {
         let Journal {
             mut text,

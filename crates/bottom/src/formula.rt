@@ -43,11 +43,12 @@ impl FormulaBook {
             && meets(standing, window))
     }
 
-    // The lowest number whose window meets `window`.
+    // The lowest number whose window meets `window`. Here and in `holder` the range has no last number of its own: over
+    // `1..=LAST_WINDOW` a turn of the loop takes twice as many instructions.
     fn first_met(&self, window: Window) -> Option<u32>
         ensures { Kept self.now.ledger → Suits (meaning_of self.now.ledger) window → result ≡ first_met (meaning_of self.now.ledger) window }
     {
-        (1..=LAST_WINDOW).find(|&number| self.meets_standing(number, window))
+        (1..LAST_WINDOW + 1).find(|&number| self.meets_standing(number, window))
     }
 
     // Whether the window may stand under the number, and if not, why.
@@ -73,14 +74,15 @@ impl FormulaBook {
             .is_some_and(|window| window.link == link && window.holds(0, step))
     }
 
-    // The lowest number whose window holds the step of the link.
+    // The lowest number whose window holds the step of the link. Not inlined, its loop has shorter instructions.
+    #[inline(never)]
     fn holder(&self, link: u32, step: u64) -> Option<u32>
         ensures { result ≡ held_answer link step (meaning_of self.now.ledger) }
     {
         if !is_link(link) {
             return None;
         }
-        (1..=LAST_WINDOW).find(|&number| self.holds_standing(number, link, step))
+        (1..LAST_WINDOW + 1).find(|&number| self.holds_standing(number, link, step))
     }
 }
 

@@ -74,8 +74,8 @@ impl View for Grain {
         }
     }
 
-    fn step_below(&self, link: u32, step: u64) -> u64 {
-        step.saturating_mul(u64::from(self.grain.at(link)))
+    fn step_below(&self, link: u32, step: u64) -> Option<u64> {
+        step.checked_mul(u64::from(self.grain.at(link)))
     }
 
     fn span(&self, link: u32, span: Span) -> Span {

@@ -54,11 +54,16 @@ impl<B: Book, V: View> Book for Layer<B, V> {
         self.below.find(number).map(|window| self.view.up(window))
     }
 
-    // A link's steps are held alike in every cycle, so the place in the cycle is asked for below.
+    // A link's steps are held alike in every cycle. So where the step below would be too great for its type, the one of the place
+    // in the cycle is asked for.
     fn held(&self, link: u32, step: u64) -> Option<u32> {
+        if let Some(below) = self.view.step_below(link, step) {
+            return self.below.held(link, below);
+        }
         let Span { cycle, .. } = self.span(link);
         let place = step.checked_rem(u64::from(cycle))?;
-        self.below.held(link, self.view.step_below(link, place))
+        let below = self.view.step_below(link, place)?;
+        self.below.held(link, below)
     }
 
     fn span(&self, link: u32) -> Span {

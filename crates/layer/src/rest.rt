@@ -85,8 +85,8 @@ impl View for Extra {
         }
     }
 
-    fn step_below(&self, _link: u32, step: u64) -> u64 {
-        step
+    fn step_below(&self, _link: u32, step: u64) -> Option<u64> {
+        Some(step)
     }
 
     fn span(&self, link: u32, span: Span) -> Span {
