@@ -1,14 +1,16 @@
 -- A book that is kept in another one, of which the windows meet as they do there: what follows from the meetings alone.
-use Rattle.std.proofs.Common.{◌≡◌, ℕ, ◌≤◌, is_some, Some, None, Option, sym, refl, ap, ◌∙◌, subst, arith}
+use Rattle.std.proofs.Common.{◌≡◌, ℕ, ◌≤◌, is_some, Some, None, Option, sym, refl, ap, ◌∙◌, subst, arith, Ok, Err, Result}
 use Rattle.std.proofs.lemmas.Bool.Decides.{Decides-like, same_from_decides}
 use Rattle.std.specs.Option.{option_map}
 use Rattle.std.specs.Result.{result_and}
+use Rattle.book.specs.declared.fault.BookFault.{BookFault}
 use Rattle.book.specs.declared.window.Window.{Window}
-use Rattle.book.specs.Calls.{meets_standing, first_met, unfit, unmet, book_answer, held_answer}
+use Rattle.book.specs.Calls.{meets_standing, first_met, unfit, unmet, book_answer, book_after, changed, held_answer}
 use Rattle.book.specs.Holding.{Holds, Meet}
 use Rattle.book.specs.Lowest.{lowest}
-use Rattle.book.specs.Meaning.{Meaning}
+use Rattle.book.specs.Meaning.{Meaning, with}
 use Rattle.book.specs.Sound.{Stands, EachStanding, Suits, Proper, Sound, WouldMeet}
+use Rattle.book.specs.Steps.{Did}
 use Rattle.book.proofs.Clashing.{meets_standing_lem}
 use Rattle.book.proofs.Fitting.{free, unfit_proper}
 use Rattle.book.proofs.Holders.{held_like}
@@ -113,3 +115,24 @@ module _ {up down : Window → Window} {m₀ m : Meaning} (t : Meetings up down 
       let low : v.link ≡ l = sym (link_above k v there) ∙ ap (λ x. x.link) is ∙ link in
       let At : Window → Type 0 = λ x. Holds x (m.rest l) s in
       (v, (there, (low, falls k v there low (subst At (sym is) held)))))
+
+-- what a call on the book below does to the book above, which means what above says of the one below as long as this is Tied
+module _ {up down : Window → Window} (above : Meaning → Meaning) (Tied : Meaning → Type 0) (m₀ m₀' : Meaning) (t : Meetings up down m₀ (above m₀)) (tied : Tied m₀) (K : Type 0) (n : ℕ) where
+  pub meetings_booked : (w x : Window) (r : Result (Unit {0}) BookFault) → Proper (above m₀) n w → x ≡ down w → above (with n (Some (down w)) m₀) ≡ with n (Some w) (above m₀) → Tied (with n (Some (down w)) m₀) → Did r (book_answer n x m₀) m₀' (book_after n x m₀) K → Did r (book_answer n w (above m₀)) (above m₀') (book_after n w (above m₀)) (K × Tied m₀')
+  meetings_booked w x r proper low sees stays called =
+      let At : Window → Type 0 = λ y. Did r (book_answer n y m₀) m₀' (book_after n y m₀) K in
+      let did = subst At low called in
+      let same = meetings_answer t n w proper in
+      record {
+        answer = did.answer ∙ same;
+        after = ap above did.after ∙ go (book_answer n (down w) m₀) ∙ ap (λ a. changed a (with n (Some w) (above m₀)) (above m₀)) same;
+        kept = (did.kept, subst Tied (sym did.after) (keeps (book_answer n (down w) m₀)));
+      }
+    where
+      go : (a : Result (Unit {0}) BookFault) → above (changed a (with n (Some (down w)) m₀) m₀) ≡ changed a (with n (Some w) (above m₀)) (above m₀)
+      go (Ok x) = sees
+      go (Err e) = refl
+
+      keeps : (a : Result (Unit {0}) BookFault) → Tied (changed a (with n (Some (down w)) m₀) m₀)
+      keeps (Ok x) = stays
+      keeps (Err e) = tied

@@ -1,10 +1,10 @@
 -- A book that is kept in another one: each window is handed to the book below in another form.
-use Rattle.std.proofs.Common.{◌≡◌, ℕ, ◌^◌, ◌%◌, ◌<◌, Bool, true, false, cond, eqb, Some, None, Ok, Err, Option, Result, sym, refl, ap, ◌∙◌, subst, arith}
+use Rattle.std.proofs.Common.{◌≡◌, ℕ, ◌^◌, ◌%◌, ◌<◌, Bool, true, false, cond, eqb, Some, None, Ok, Option, Result, sym, refl, ap, ◌∙◌, subst, arith}
 use Rattle.std.specs.Option.{option_map}
 use Rattle.book.specs.declared.fault.BookFault.{BookFault}
 use Rattle.book.specs.declared.span.Span.{Span}
 use Rattle.book.specs.declared.window.Window.{Window}
-use Rattle.book.specs.Calls.{first_met, misfit, book_answer, book_after, changed, held_answer, span_answer}
+use Rattle.book.specs.Calls.{first_met, misfit, book_answer, book_after, held_answer, span_answer}
 use Rattle.book.specs.Holding.{Holds}
 use Rattle.book.specs.Meaning.{Meaning, present, replaced, with}
 use Rattle.book.specs.Sound.{EachStanding, Suits, Proper, Sound, HoldsAt}
@@ -13,7 +13,7 @@ use Rattle.book.specs.Through.{Through}
 use Rattle.book.proofs.Fitting.{fitting, period_short}
 use Rattle.book.proofs.Holders.{held_like, placed_held}
 use Rattle.book.proofs.Keeping.{stands_with}
-use Rattle.book.proofs.Meetings.{Meetings, kept_as, suits_above, meetings_sound, meetings_met, meetings_answer}
+use Rattle.book.proofs.Meetings.{Meetings, kept_as, suits_above, meetings_sound, meetings_met, meetings_answer, meetings_booked}
 
 module _ {up down : Window → Window} {lower : ℕ → ℕ → ℕ} {m₀ m : Meaning} (t : Through up down lower m₀ m) where
   -- two windows meet above exactly when they do below
@@ -103,19 +103,4 @@ module _ {up down : Window → Window} {lower : ℕ → ℕ → ℕ} (above : Me
       let (below, same_window) = t.below w proper.suits in
       let short = period_short m₀ t.inner (down w) below in
       let ends = below.form.ends in
-      let At : Window → Type 0 = λ y. Did r (book_answer n y m₀) m₀' (book_after n y m₀) K in
-      let did = subst At (low (omega arith) (omega arith) (omega arith)) called in
-      let same = through_answer t n w proper in
-      record {
-        answer = did.answer ∙ same;
-        after = ap above did.after ∙ go (sees (Some (down w)) ∙ ap (λ v. with n (Some v) (above m₀)) same_window) (book_answer n (down w) m₀) ∙ ap (λ a. changed a (with n (Some w) (above m₀)) (above m₀)) same;
-        kept = (did.kept, subst Tied (sym did.after) (keeps (stays proper.suits) (book_answer n (down w) m₀)));
-      }
-    where
-      go : above (with n (Some (down w)) m₀) ≡ with n (Some w) (above m₀) → (a : Result (Unit {0}) BookFault) → above (changed a (with n (Some (down w)) m₀) m₀) ≡ changed a (with n (Some w) (above m₀)) (above m₀)
-      go seen (Ok x) = seen
-      go seen (Err e) = refl
-
-      keeps : Tied (with n (Some (down w)) m₀) → (a : Result (Unit {0}) BookFault) → Tied (changed a (with n (Some (down w)) m₀) m₀)
-      keeps more (Ok x) = more
-      keeps more (Err e) = tied
+      meetings_booked above Tied m₀ m₀' (meetings t) tied K n w x r proper (low (omega arith) (omega arith) (omega arith)) (sees (Some (down w)) ∙ ap (λ v. with n (Some v) (above m₀)) same_window) (stays proper.suits) called

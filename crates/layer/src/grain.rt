@@ -74,8 +74,13 @@ impl View for Grain {
         }
     }
 
-    fn step_below(&self, link: u32, step: u64) -> Option<u64> {
-        step.checked_mul(u64::from(self.grain.at(link)))
+    fn step_below(&self, link: u32, step: u64) -> u64 {
+        step.saturating_mul(u64::from(self.grain.at(link)))
+    }
+
+    // A step of 64 bits times the grain could have more.
+    fn direct_step(&self, _link: u32, _step: u64) -> Option<u64> {
+        None
     }
 
     fn span(&self, link: u32, span: Span) -> Span {

@@ -54,16 +54,15 @@ impl<B: Book, V: View> Book for Layer<B, V> {
         self.below.find(number).map(|window| self.view.up(window))
     }
 
-    // A link's steps are held alike in every cycle. So where the step below would be too great for its type, the one of the place
-    // in the cycle is asked for.
+    // A link's steps are held alike in every cycle, so where the view has no step below for each of them, the place in the cycle is
+    // asked for there.
     fn held(&self, link: u32, step: u64) -> Option<u32> {
-        if let Some(below) = self.view.step_below(link, step) {
+        if let Some(below) = self.view.direct_step(link, step) {
             return self.below.held(link, below);
         }
         let Span { cycle, .. } = self.span(link);
         let place = step.checked_rem(u64::from(cycle))?;
-        let below = self.view.step_below(link, place)?;
-        self.below.held(link, below)
+        self.below.held(link, self.view.step_below(link, place))
     }
 
     fn span(&self, link: u32) -> Span {

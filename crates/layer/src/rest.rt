@@ -85,7 +85,11 @@ impl View for Extra {
         }
     }
 
-    fn step_below(&self, _link: u32, step: u64) -> Option<u64> {
+    fn step_below(&self, _link: u32, step: u64) -> u64 {
+        step
+    }
+
+    fn direct_step(&self, _link: u32, step: u64) -> Option<u64> {
         Some(step)
     }
 

@@ -1,5 +1,5 @@
 // How the windows of a book appear in a book over it.
-ghost use Rattle.std.specs.Prelude.{◌≡◌, ℕ, ◌^◌, ◌<◌, ◌≤◌, Some, None, Option, MatchOption};
+ghost use Rattle.std.specs.Prelude.{◌≡◌, ℕ, ◌^◌, ◌<◌, Some, None, Option, IfSome};
 ghost use Rattle.std.specs.Option.{option_map};
 ghost use Rattle.book.specs.Calls.{span_answer};
 ghost use Rattle.book.specs.Meaning.{Meaning, with};
@@ -33,9 +33,13 @@ pub trait View {
     fn up(&self, window: Window) -> Window
         ensures { result ≡ up self.now window };
 
-    // The step to ask the book below for, none where it is too great for its type.
-    fn step_below(&self, link: u32, step: u64) -> Option<u64>
-        ensures { MatchOption result (2 ^ 32 ≤ step) (λ below. below ≡ step_below self.now link step) };
+    // The step to ask the book below for.
+    fn step_below(&self, link: u32, step: u64) -> u64
+        ensures { step < 2 ^ 32 → result ≡ step_below self.now link step };
+
+    // The step to ask the book below for, where it is found for every step of the link, and so without the cycle.
+    fn direct_step(&self, link: u32, step: u64) -> Option<u64>
+        ensures { IfSome result (λ below. below ≡ step_below self.now link step) };
 
     // The cycle and the rest of the link, by those of the book below.
     fn span(&self, link: u32, span: Span) -> Span

@@ -1,4 +1,4 @@
-use Rattle.std.proofs.Common.{◌≡◌, ◌%◌, ◌<◌, sym, ap, ◌∙◌, arith, rules}
+use Rattle.std.proofs.Common.{◌≡◌, ◌%◌, ◌<◌, ◌^◌, sym, ap, ◌∙◌, mod-lt, arith, rules}
 use Rattle.book.specs.Calls.{held_answer}
 use Rattle.book.proofs.Holders.{held_exactly, absent_held}
 use Rattle.book.proofs.Through.{through_sound, through_held, held_through}
@@ -37,6 +37,7 @@ returns g c =
     let cycle = c.span-cycle.result.cycle in
     let some : 0 < cycle = omega (arith, c.from.ensures, c.in_ok-place.ensures.0) in
     let place : c.in_ok-place.place ≡ c.args.step % cycle = search rules in
+    let small : c.in_ok-place.place < 2 ^ 32 = omega (arith, place, mod-lt c.args.step some, c.span-cycle.type_inv) in
     let is : g.B.Book.keeps below × g.V.View.tied view m → c.held-2.result ≡ held_answer c.args.link c.args.step above = λ kept.
-    held_through (through kept) c.args.link c.args.step c.in_ok-place.place c.in_ok-below.below c.span-cycle.result c.held-2.result (c.span-cycle.ensures kept) some place (search rules) (c.held-2.ensures.answer kept.0) in
+    held_through (through kept) c.args.link c.args.step c.in_ok-place.place c.step_below.result c.span-cycle.result c.held-2.result (c.span-cycle.ensures kept) some place (c.step_below.ensures small) (c.held-2.ensures.answer kept.0) in
     record { answer = is; exact = λ kept. held_exactly above (through_sound (through kept)) c.args.link c.args.step c.held-2.result (is kept) }
